@@ -1,0 +1,4 @@
+pub mod Bytes
+pub mod Errors
+pub mod Reading
+pub mod Arrays

@@ -1,0 +1,16 @@
+use mathlib.Core.Path.{refl}
+use native.Mathlib.Omega.{arith}
+use Rattle.binary_write.specs.Meanings.{summed}
+use Rattle.binary_write.proofs.Putting.{accepted}
+use Rattle.binary_write.proofs.Sums.{added-up, still-filled}
+use Rattle.binary_write.proofs.checksum.sink.ChecksumSink.write_bytes.Needs as need
+
+pub ghost-self : need.ghost-self
+ghost-self c =
+    let s = c .args .self .now in
+    (c .added-self .ok, (still-filled (s .count) (s .sum) _ (c .added-self .result) (c .args .bytes .now) (s .small) (s .filled) refl (c .added-self .ensures), tt))
+
+pub returns : need.returns
+returns c =
+    accepted summed (c .args .bytes .now) (c .args .self .now) _ (omega arith)
+    (added-up (c .args .bytes .now) _ _ refl (omega arith) (c .added-self .ensures))

@@ -1,0 +1,30 @@
+use lib.ListN.{replicate}
+use mathlib.Core.Path.{refl, sym}
+use native.Mathlib.Omega.{arith}
+use Rattle.std.proofs.shelf.Lists.{length-replicate}
+use Rattle.binary_write.specs.Meanings.{summed}
+use Rattle.binary_write.proofs.Putting.{accepted, refused}
+use Rattle.binary_write.proofs.Sums.{added-up, adds-zeros, still-filled}
+use Rattle.binary_write.proofs.checksum.sink.ChecksumSink.write_zeros.Needs as need
+
+pub ghost-self : need.ghost-self
+ghost-self c =
+    let s = c .args .self .now in
+    let zeros = replicate (c .args .n) 0 in (
+      s .small,
+      (
+        still-filled (s .count) (s .sum) (c .args .n) (s .sum) zeros (s .small) (s .filled) (sym (length-replicate (c .args .n) 0))
+            (adds-zeros (s .count) (s .sum) (c .args .n)),
+        tt,
+      ),
+    )
+
+pub returns-then-n-self : need.returns-then-n-self
+returns-then-n-self c = refused summed (replicate (c .args .n) 0) (c .args .self .now) (simp length-replicate (omega arith))
+
+pub returns : need.returns
+returns c =
+    let s = c .args .self .now in
+    accepted summed (replicate (c .args .n) 0) s _ (simp length-replicate (omega arith))
+    (added-up (replicate (c .args .n) 0) s _ (simp length-replicate refl) (simp length-replicate (omega arith))
+    (adds-zeros (s .count) (s .sum) (c .args .n)))

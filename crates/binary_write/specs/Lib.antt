@@ -1,0 +1,4 @@
+pub mod Checksums
+pub mod Errors
+pub mod Meanings
+pub mod Sinks

@@ -1,0 +1,66 @@
+//! The buffer as a sink.
+ghost use Prim.Native.Nat.{min};
+ghost use Rattle.binary_write.specs.Meanings as means;
+ghost use Rattle.binary_write.specs.Sinks.{New};
+ghost use Rattle.std.specs.Of.Vec.{vec-len, vec-items};
+ghost use lib.ListN.{take};
+ghost use mathlib.Core.Path.{_≡_};
+use crate::WriteContext;
+use crate::buffer::WriteBuffer;
+use crate::error::WriteError;
+
+impl WriteBuffer {
+    /// An empty buffer, with as much space as `bytes` is long, and at most 4294967295 bytes.
+    pub fn new(bytes: Vec<u8>) -> WriteBuffer
+        ensures { λ r. ⌜ New means.buffer (min (vec-len bytes) 4294967295) r ⌝ }
+    {
+        let space = bytes.len().min(4294967295);
+        WriteBuffer {
+            bytes,
+            written: 0,
+            space,
+        }
+    }
+
+    /// The bytes that were written.
+    pub fn bytes(&self) -> &[u8]
+        ensures { λ r. ⌜ means.buffer .stands (now (self .entry)) (now r) ⌝ }
+    {
+        &self.bytes[0..self.written]
+    }
+}
+
+pub impl WriteContext for WriteBuffer as BufferSink {
+    ghost meaning = { means.buffer };
+
+    fn write_bytes(&mut self, bytes: &[u8]) -> Result<(), WriteError> {
+        let n = bytes.len();
+        if self.space < n {
+            return Err(WriteError::NoSpace);
+        }
+        let at = self.written;
+        self.bytes[at..at + n].copy_from_slice(bytes);
+        self.written = at + n;
+        self.space -= n;
+        Ok(())
+    }
+
+    fn write_zeros(&mut self, n: usize) -> Result<(), WriteError> {
+        if self.space < n {
+            return Err(WriteError::NoSpace);
+        }
+        let at = self.written;
+        self.bytes[at..at + n].fill(0);
+        self.written = at + n;
+        self.space -= n;
+        Ok(())
+    }
+
+    fn bytes_written(&self) -> usize {
+        self.written
+    }
+
+    fn space(&self) -> usize {
+        self.space
+    }
+}

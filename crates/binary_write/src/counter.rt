@@ -1,0 +1,49 @@
+//! A sink that only counts.
+ghost use Rattle.binary_write.specs.Meanings as means;
+ghost use Rattle.binary_write.specs.Sinks.{New};
+use crate::WriteContext;
+use crate::error::WriteError;
+
+/// A `WriteContext` implementation that just counts the bytes written.
+#[derive(Clone, Copy)]
+pub struct WriteCounter {
+    count: u32,
+}
+
+impl WriteCounter {
+    /// A counter at 0.
+    pub fn new() -> WriteCounter
+        ensures { λ r. ⌜ New means.counter 4294967295 r ⌝ }
+    {
+        WriteCounter { count: 0 }
+    }
+}
+
+pub impl WriteContext for WriteCounter as CounterSink {
+    ghost meaning = { means.counter };
+
+    fn write_bytes(&mut self, bytes: &[u8]) -> Result<(), WriteError> {
+        let n = bytes.len();
+        if n > (u32::MAX - self.count) as usize {
+            return Err(WriteError::NoSpace);
+        }
+        self.count += n as u32;
+        Ok(())
+    }
+
+    fn write_zeros(&mut self, n: usize) -> Result<(), WriteError> {
+        if n > (u32::MAX - self.count) as usize {
+            return Err(WriteError::NoSpace);
+        }
+        self.count += n as u32;
+        Ok(())
+    }
+
+    fn bytes_written(&self) -> usize {
+        self.count as usize
+    }
+
+    fn space(&self) -> usize {
+        (u32::MAX - self.count) as usize
+    }
+}
