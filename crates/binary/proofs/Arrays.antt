@@ -54,3 +54,10 @@ module _ {A : Type 0} (size : ℕ) (decode : List ℕ → A) where
       div-eq-sub-div pos h ∙ (rw (length-drop size bs) (omega arith))
       in
       ap (λ (n : ℕ). fieldsOf size decode n bs) e
+
+  length-of : (n : ℕ) (bs : List ℕ) → length (fieldsOf size decode n bs) ≡ n
+  length-of zero bs = refl
+  length-of (suc n) bs = ap suc (length-of n (drop size bs))
+
+  pub fields-length : (bs : List ℕ) → length (fields size decode bs) ≡ length bs / size
+  fields-length bs = length-of (length bs / size) bs

@@ -7,17 +7,30 @@ ghost use mathlib.Core.List.{List};
 ghost use mathlib.Core.Path.{_≡_};
 use crate::error::WriteError;
 
+mod arrays;
 mod buffer;
 mod checksum;
 mod counter;
 pub mod error;
+mod fields;
 
+pub use arrays::write_array;
+pub use arrays::write_vec;
 pub use buffer::WriteBuffer;
 pub use buffer::sink::BufferSink;
 pub use checksum::WriteChecksum;
 pub use checksum::sink::ChecksumSink;
 pub use counter::CounterSink;
 pub use counter::WriteCounter;
+pub use fields::BoundingBoxWrite;
+pub use fields::F2Dot14Write;
+pub use fields::I16BeWrite;
+pub use fields::I8Write;
+pub use fields::LongHorMetricWrite;
+pub use fields::U16BeWrite;
+pub use fields::U32BeWrite;
+pub use fields::U8Write;
+pub use fields::WriteBinary;
 
 /// A sink: somewhere to write bytes to. It says how many bytes it took and how many it still takes.
 pub trait WriteContext {

@@ -28,7 +28,7 @@ pub struct ReadArrayIter<'a, T> {
 impl<'a, T: ReadUnchecked> ReadArray<'a, T> {
     /// How many fields there are.
     pub fn len(&self) -> usize
-        ensures { λ r. ⌜ r ≡ length (now (now (self .entry) .bytes)) / T·ReadUnchecked .size ⌝ }
+        ensures { λ r. ⌜ r ≡ length (fields (T·ReadUnchecked .size) (T·ReadUnchecked .decode) (now (now (self .entry) .bytes))) ⌝ }
     {
         self.bytes.len() / T::size()
     }
