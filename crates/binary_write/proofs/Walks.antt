@@ -24,7 +24,7 @@ module _ {S : Type 0} (m : Meaning S) where
       record {
         behind = λ xs p. rw append-nil p;
         more = omega arith;
-        less = omega arith
+        less = omega arith;
       }
 
   pub put-more : (bs cs : List ℕ) (s t u : S) → Put m bs s t → Put m cs t u → Put m (bs ++ cs) s u
@@ -33,7 +33,7 @@ module _ {S : Type 0} (m : Meaning S) where
       record {
         behind = λ xs h. rw (← append-assoc) (q .behind (xs ++ bs) (p .behind xs h));
         more = omega (arith, p .more, q .more);
-        less = omega (arith, p .less, q .less)
+        less = omega (arith, p .less, q .less);
       }
 
   -- A put for which there is space is accepted.
@@ -66,7 +66,7 @@ module _ {S : Type 0} (m : Meaning S) where
     next vs v s t u r p room q =
         let whole : joined encode vs ++ encode v ≡ joined encode (vs ++ v ∷ []) = joined-more encode [] vs v in
         let long : length (joined encode vs) + length (encode v) ≡ length (joined encode (vs ++ v ∷ [])) =
-          sym (length-append (joined encode vs) (encode v)) ∙ ap length whole
+        sym (length-append (joined encode vs) (encode v)) ∙ ap length whole
         in
         let got = taken (encode v) t u r (omega (arith, p .less)) q in
         let both = put-more (joined encode vs) (encode v) s t u p (got .1) in

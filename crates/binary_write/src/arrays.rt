@@ -9,7 +9,10 @@ use binary::read::ReadArray;
 use binary::read::ReadArrayIterIterator;
 
 /// Writes the fields of an array, all of them or none.
-pub fn write_array<T: WriteBinary, C: WriteContext>(ctxt: &mut C, array: &ReadArray<'_, T>) -> Result<(), WriteError>
+pub fn write_array<T: WriteBinary, C: WriteContext>(
+    ctxt: &mut C,
+    array: &ReadArray<'_, T>,
+) -> Result<(), WriteError>
     ensures { λ r. ⌜ Puts (C·WriteContext .meaning) (joined (T·ReadUnchecked .encode) (fields (T·ReadUnchecked .size) (T·ReadUnchecked .decode) (now (now (array .entry) .bytes)))) (now (ctxt .entry)) r (now (ctxt .exit)) ⌝ }
 {
     if array.len() > ctxt.space() / T::size() {
@@ -22,7 +25,10 @@ pub fn write_array<T: WriteBinary, C: WriteContext>(ctxt: &mut C, array: &ReadAr
 }
 
 /// Writes values as fields of one kind, all of them or none.
-pub fn write_vec<T: WriteBinary, C: WriteContext>(ctxt: &mut C, values: &[T::HostType]) -> Result<(), WriteError>
+pub fn write_vec<T: WriteBinary, C: WriteContext>(
+    ctxt: &mut C,
+    values: &[T::HostType],
+) -> Result<(), WriteError>
 where
     T::HostType: Copy,
     ensures { λ r. ⌜ Puts (C·WriteContext .meaning) (joined (T·ReadUnchecked .encode) (now (values .entry))) (now (ctxt .entry)) r (now (ctxt .exit)) ⌝ }

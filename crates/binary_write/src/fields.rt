@@ -4,21 +4,21 @@ use crate::WriteContext;
 use crate::error::WriteError;
 use binary::BoundingBox;
 use binary::F2Dot14;
-use binary::I16Be;
 use binary::I8;
+use binary::I16Be;
 use binary::LongHorMetric;
+use binary::U8;
 use binary::U16Be;
 use binary::U32Be;
-use binary::U8;
 use binary::read::BoundingBoxField;
 use binary::read::F2Dot14Field;
-use binary::read::I16BeField;
 use binary::read::I8Field;
+use binary::read::I16BeField;
 use binary::read::LongHorMetricField;
 use binary::read::ReadUnchecked;
+use binary::read::U8Field;
 use binary::read::U16BeField;
 use binary::read::U32BeField;
-use binary::read::U8Field;
 
 /// A kind of field that can be written: the bytes that spell the value, all of them or none.
 pub trait WriteBinary: ReadUnchecked {

@@ -24,12 +24,12 @@ pub use counter::CounterSink;
 pub use counter::WriteCounter;
 pub use fields::BoundingBoxWrite;
 pub use fields::F2Dot14Write;
-pub use fields::I16BeWrite;
 pub use fields::I8Write;
+pub use fields::I16BeWrite;
 pub use fields::LongHorMetricWrite;
+pub use fields::U8Write;
 pub use fields::U16BeWrite;
 pub use fields::U32BeWrite;
-pub use fields::U8Write;
 pub use fields::WriteBinary;
 
 /// A sink: somewhere to write bytes to. It says how many bytes it took and how many it still takes.

@@ -26,18 +26,21 @@ returns-then-len-space g c =
     (g .T·ReadUnchecked·met .some) (omega (arith, c .len .ensures))
 
 pub loop-value-holds : need.loop-value-holds
-loop-value-holds g c =
-    (tt, tt, put-none (g .C·WriteContext .meaning) (c .args .ctxt .now),
-      ap (all g) (sym (ap (λ i. now (i .bytes)) (c .into-iter-value-iterator .ensures .becomes) ∙ c .iter-value-items .ensures)))
+loop-value-holds g c = (
+  tt,
+  tt,
+  put-none (g .C·WriteContext .meaning) (c .args .ctxt .now),
+  ap (all g) (sym (ap (λ i. now (i .bytes)) (c .into-iter-value-iterator .ensures .becomes) ∙ c .iter-value-items .ensures)),
+)
 
 pub loop-value-again : need.loop-value-again
 loop-value-again g c =
     let done = c .loop-value .inv in
     let step = c .in-Some .ensures tt .steps in
     let got =
-      turn (g .C·WriteContext .meaning) (g .T·ReadUnchecked .encode) (g .T·ReadUnchecked .size) (g .T·ReadUnchecked·met .exact)
-      (all g (c .args .array .now .bytes .now)) (c .loop-value .yielded) (c .in-Some .value) (c .space .result) (c .size .result) (c .args .ctxt .now) (c .loop-value .ctxt) (c .write .last .ctxt) (c .write .result)
-      (c .space .ensures) (c .size .ensures) (omega (arith, c .len .ensures)) (shorter _ _ _ _ _ (done .3) step) (done .2) (c .write .ensures)
+    turn (g .C·WriteContext .meaning) (g .T·ReadUnchecked .encode) (g .T·ReadUnchecked .size) (g .T·ReadUnchecked·met .exact)
+    (all g (c .args .array .now .bytes .now)) (c .loop-value .yielded) (c .in-Some .value) (c .space .result) (c .size .result) (c .args .ctxt .now) (c .loop-value .ctxt) (c .write .last .ctxt) (c .write .result)
+    (c .space .ensures) (c .size .ensures) (omega (arith, c .len .ensures)) (shorter _ _ _ _ _ (done .3) step) (done .2) (c .write .ensures)
     in
     (tt, tt, got .1, done .3 ∙ (ap (λ vs. c .loop-value .yielded ++ vs) step ∙ sym (append-assoc (c .loop-value .yielded) (c .in-Some .value ∷ []) _)))
 
@@ -46,9 +49,9 @@ returns-in-Break-write g c =
     let done = c .loop-value .inv in
     let step = c .in-Some .ensures tt .steps in
     let ok =
-      turn (g .C·WriteContext .meaning) (g .T·ReadUnchecked .encode) (g .T·ReadUnchecked .size) (g .T·ReadUnchecked·met .exact)
-      (all g (c .args .array .now .bytes .now)) (c .loop-value .yielded) (c .in-Some .value) (c .space .result) (c .size .result) (c .args .ctxt .now) (c .loop-value .ctxt) (c .write .last .ctxt) (c .write .result)
-      (c .space .ensures) (c .size .ensures) (omega (arith, c .len .ensures)) (shorter _ _ _ _ _ (done .3) step) (done .2) (c .write .ensures) .0
+    turn (g .C·WriteContext .meaning) (g .T·ReadUnchecked .encode) (g .T·ReadUnchecked .size) (g .T·ReadUnchecked·met .exact)
+    (all g (c .args .array .now .bytes .now)) (c .loop-value .yielded) (c .in-Some .value) (c .space .result) (c .size .result) (c .args .ctxt .now) (c .loop-value .ctxt) (c .write .last .ctxt) (c .write .result)
+    (c .space .ensures) (c .size .ensures) (omega (arith, c .len .ensures)) (shorter _ _ _ _ _ (done .3) step) (done .2) (c .write .ensures) .0
     in
     let was = c .in-Break-write .was tt in
     let z : _≡_ {A = ℕ} 0 1 = cc in

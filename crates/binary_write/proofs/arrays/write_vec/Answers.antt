@@ -34,8 +34,8 @@ loop-value-again g c =
 pub returns-in-Break-write : need.returns-in-Break-write
 returns-in-Break-write g c =
     let ok = at-index (g .C·WriteContext .meaning) (g .T·ReadUnchecked .encode) (g .T·ReadUnchecked .size) (g .T·ReadUnchecked·met .exact)
-      (c .args .values .now) (c .loop-value .value-index) (c .value-item .result) (c .space .result) (c .size .result) (c .args .ctxt .now) (c .loop-value .ctxt) (c .write .last .ctxt) (c .write .result)
-      (c .space .ensures) (c .size .ensures) (c .if-values-space .left) (c .loop-value-test .taken) (c .value-item .is) (c .loop-value .inv) (c .write .ensures) .0
+    (c .args .values .now) (c .loop-value .value-index) (c .value-item .result) (c .space .result) (c .size .result) (c .args .ctxt .now) (c .loop-value .ctxt) (c .write .last .ctxt) (c .write .result)
+    (c .space .ensures) (c .size .ensures) (c .if-values-space .left) (c .loop-value-test .taken) (c .value-item .is) (c .loop-value .inv) (c .write .ensures) .0
     in
     let was = c .in-Break-write .was tt in
     let z : _≡_ {A = ℕ} 0 1 = cc in absurd (omega arith)

@@ -12,7 +12,7 @@ mul-result g c =
     let bs = c .args .self .now .bytes .now in
     let n = c .len .ensures ∙ fields-length (g .T·ReadUnchecked .size) (g .T·ReadUnchecked .decode) bs in
     let h =
-      item-inside (length bs) (g .T·ReadUnchecked .size) (c .len .result) (c .size .result) (c .args .index) n (c .size .ensures) (c .if-index-len .taken)
+    item-inside (length bs) (g .T·ReadUnchecked .size) (c .len .result) (c .size .result) (c .args .index) n (c .size .ensures) (c .if-index-len .taken)
     in
     search needs
 
@@ -21,7 +21,7 @@ returns-then-index-len g c =
     let bs = c .args .self .now .bytes .now in
     let n = c .len .ensures ∙ fields-length (g .T·ReadUnchecked .size) (g .T·ReadUnchecked .decode) bs in
     let h =
-      item-inside (length bs) (g .T·ReadUnchecked .size) (c .len .result) (c .size .result) (c .args .index) n (c .size .ensures) (c .if-index-len .taken)
+    item-inside (length bs) (g .T·ReadUnchecked .size) (c .len .result) (c .size .result) (c .args .index) n (c .size .ensures) (c .if-index-len .taken)
     in
     (omega arith, ap (λ k. c .args .index * k) (c .size .ensures), omega (arith, c .size .ensures))
 

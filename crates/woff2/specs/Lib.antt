@@ -1,0 +1,3 @@
+pub mod Bits
+pub mod Packed
+pub mod Transformed
