@@ -76,17 +76,18 @@ fn show_verdict<W: fmt::Write>(
     let number = error.number();
     let bytes = report.bytes;
     let bitmap = header.bitmap_size();
-    let boxes = header.bbox_size;
+    let bbox_size = header.bbox_size;
     match error {
         ParseError::BadValue => {
             writeln!(
                 f,
-                "refused         {number}: the boxes have {boxes} bytes, and their bitmap alone needs {bitmap}"
+                "refused         {number}: the boxes have {bbox_size} bytes, and their bitmap alone needs {bitmap}"
             )
         }
         _ => {
-            let [.., last] = header.spans();
-            let end = last.place.saturating_add(u64::from(last.size));
+            let [.., boxes, last] = header.spans();
+            let behind_bitmap = boxes.place.saturating_add(bitmap as u64);
+            let end = last.place.saturating_add(u64::from(last.size)).max(behind_bitmap);
             writeln!(
                 f,
                 "refused         {number}: the streams end at {end}, and the table has only {bytes} bytes: it was cut short, or a size in its header is wrong"
