@@ -2,7 +2,7 @@
 use Prim.Native.Nat.{ℕ, zero, suc, _+_, _-_, _*_, _/_, _<_, _≤_}
 use lib.ListN.{length, take, drop}
 use mathlib.Core.List.{List, [], _∷_}
-use mathlib.Core.Path.{_≡_, refl, sym, ap, _∙_}
+use mathlib.Core.Path.{_≡_, refl, ap, _∙_}
 use native.Mathlib.Nat.{zero-mul, suc-mul, div-mul-le-self, div-eq-of-lt, div-eq-sub-div, mul-le-mul-right}
 use native.Mathlib.Omega.{arith}
 use Rattle.std.specs.Finite.{nth}
@@ -18,12 +18,6 @@ ends-inside len size i h =
     let q : suc i * size ≡ i * size + size = suc-mul i size in
     let r : len / size * size ≤ len = div-mul-le-self len size in
     omega arith
-
--- The same, of a count `n` and a size `s` that were asked for.
-pub item-inside : (len size n s i : ℕ) → n ≡ len / size → s ≡ size → i < n → i * s + s ≤ len
-item-inside len size n s i p q h =
-    let e : n ≡ len / s = p ∙ ap (λ (k : ℕ). len / k) (sym q) in
-    ends-inside len s i (omega (arith, e))
 
 module _ {A : Type 0} (size : ℕ) (decode : List ℕ → A) where
   at-of : (n i : ℕ) (bs : List ℕ) → i < n → nth (fieldsOf size decode n bs) i ≡ Some (decode (take size (drop (i * size) bs)))

@@ -6,27 +6,11 @@ use mathlib.Core.List.{List, [], _∷_, _++_}
 use mathlib.Core.Path.{_≡_, refl, sym, ap, _∙_}
 use mir.Syntax.{w8, w16}
 use mir.Val.{toZ, ofZ, bits}
+use native.Mathlib.Nat.{add-zero}
 use native.Mathlib.Omega.{arith}
-use Rattle.std.proofs.shelf.Lists.{take-append-drop, drop-drop, length-drop, take-all}
+use Rattle.std.proofs.shelf.Lists.{take-append-drop, drop-drop, getD-drop, length-drop, take-all}
 use Rattle.std.proofs.shelf.Signed.{ofZ-toZ}
-use Rattle.binary.specs.Bytes.{AllBytes, u8-said, i8-said, u16-said, i16-said, u32-said, u8-bytes, i8-bytes, u16-bytes, i16-bytes, u32-bytes, box-bytes, box-said, metric-bytes, metric-said}
-
--- A field looks at its own bytes alone.
-pub u8-front : (bs : List ℕ) → u8-said (take 1 bs) ≡ u8-said bs
-u8-front [] = refl
-u8-front (a ∷ bs) = refl
-
-pub u16-front : (bs : List ℕ) → u16-said (take 2 bs) ≡ u16-said bs
-u16-front [] = refl
-u16-front (a ∷ []) = refl
-u16-front (a ∷ (b ∷ bs)) = refl
-
-pub u32-front : (bs : List ℕ) → u32-said (take 4 bs) ≡ u32-said bs
-u32-front [] = refl
-u32-front (a ∷ []) = refl
-u32-front (a ∷ (b ∷ [])) = refl
-u32-front (a ∷ (b ∷ (c ∷ []))) = refl
-u32-front (a ∷ (b ∷ (c ∷ (d ∷ bs)))) = refl
+use Rattle.binary.specs.Bytes.{AllBytes, u8-said, i8-said, u16-at, i16-at, u16-said, i16-said, u32-said, u8-bytes, i8-bytes, u16-bytes, i16-bytes, u32-bytes, box-bytes, box-said, metric-bytes, metric-said}
 
 pub bytes-drop : (n : ℕ) (bs : List ℕ) → AllBytes bs → AllBytes (drop n bs)
 bytes-drop zero bs h = h
@@ -86,11 +70,16 @@ joins n bs front tail p q =
     let f : take 2 (drop n bs) ++ drop 2 (drop n bs) ≡ drop n bs = take-append-drop 2 (drop n bs) in
     cc
 
-module _ (bs : List ℕ) (ok : AllBytes bs) where
-  pair-at : (n : ℕ) → n + 2 ≤ length bs → i16-bytes (i16-said (drop n bs)) ≡ take 2 (drop n bs)
-  pair-at n h = i16-again (drop n bs) (simp length-drop (omega arith)) (bytes-drop n bs ok)
+u16-from : (bs : List ℕ) (n : ℕ) → u16-said (drop n bs) ≡ u16-at bs n
+u16-from bs n = simp (getD-drop, add-zero)
 
-  last-pair : (n : ℕ) → length bs ≡ n + 2 → i16-bytes (i16-said (drop n bs)) ≡ drop n bs
+module _ (bs : List ℕ) (ok : AllBytes bs) where
+  pair-at : (n : ℕ) → n + 2 ≤ length bs → i16-bytes (i16-at bs n) ≡ take 2 (drop n bs)
+  pair-at n h =
+      ap (λ (v : ℕ). i16-bytes (toZ w16 v)) (sym (u16-from bs n))
+      ∙ i16-again (drop n bs) (simp length-drop (omega arith)) (bytes-drop n bs ok)
+
+  last-pair : (n : ℕ) → length bs ≡ n + 2 → i16-bytes (i16-at bs n) ≡ drop n bs
   last-pair n h = pair-at n (omega arith) ∙ take-all 2 (drop n bs) (simp length-drop (omega arith))
 
   pub metric-again : length bs ≡ 4 → metric-bytes (metric-said bs) ≡ bs

@@ -2,7 +2,7 @@
 use Prim.Native.Nat.{ℕ, _+_, _*_, _/_, _%_, _<_}
 use mathlib.Core.List.{List, [], _∷_, _++_}
 use lib.IntN.{ℤ}
-use lib.ListN.{getD, drop}
+use lib.ListN.{getD}
 use mir.Syntax.{w8, w16}
 use mir.Val.{toZ, ofZ}
 use Rattle.binary.specs.declared.BoundingBox.{BoundingBox}
@@ -14,36 +14,41 @@ abbrev pub AllBytes : List ℕ → Type 0
 AllBytes [] = Unit {0}
 AllBytes (b ∷ bs) = (b < 256) × AllBytes bs
 
--- What the first bytes of a list say. Signed numbers are in two's complement.
+-- What the bytes from a place on say. Signed numbers are in two's complement.
+abbrev pub u16-at : List ℕ → ℕ → ℕ
+u16-at bs at = getD bs at 0 * 256 + getD bs (at + 1) 0
+
+abbrev pub i16-at : List ℕ → ℕ → ℤ
+i16-at bs at = toZ w16 (u16-at bs at)
+
+abbrev pub u32-at : List ℕ → ℕ → ℕ
+u32-at bs at = getD bs at 0 * 16777216 + getD bs (at + 1) 0 * 65536 + getD bs (at + 2) 0 * 256 + getD bs (at + 3) 0
+
+-- What the bytes of a field say.
 abbrev pub u8-said : List ℕ → ℕ
 u8-said bs = getD bs 0 0
 
 abbrev pub i8-said : List ℕ → ℤ
-i8-said bs = toZ w8 (u8-said bs)
+i8-said bs = toZ w8 (getD bs 0 0)
 
 abbrev pub u16-said : List ℕ → ℕ
-u16-said bs = getD bs 0 0 * 256 + getD bs 1 0
+u16-said bs = u16-at bs 0
 
 abbrev pub i16-said : List ℕ → ℤ
-i16-said bs = toZ w16 (u16-said bs)
+i16-said bs = i16-at bs 0
 
 abbrev pub u32-said : List ℕ → ℕ
-u32-said bs = getD bs 0 0 * 16777216 + getD bs 1 0 * 65536 + getD bs 2 0 * 256 + getD bs 3 0
+u32-said bs = u32-at bs 0
 
 abbrev pub f2dot14-said : List ℕ → F2Dot14
-f2dot14-said bs = record { 0 = i16-said bs }
+f2dot14-said bs = record { 0 = i16-at bs 0 }
 
 abbrev pub box-said : List ℕ → BoundingBox
 box-said bs =
-    record {
-      «x_min» = i16-said bs;
-      «y_min» = i16-said (drop 2 bs);
-      «x_max» = i16-said (drop 4 bs);
-      «y_max» = i16-said (drop 6 bs);
-    }
+    record { «x_min» = i16-at bs 0; «y_min» = i16-at bs 2; «x_max» = i16-at bs 4; «y_max» = i16-at bs 6 }
 
 abbrev pub metric-said : List ℕ → LongHorMetric
-metric-said bs = record { «advance_width» = u16-said bs; lsb = i16-said (drop 2 bs) }
+metric-said bs = record { «advance_width» = u16-at bs 0; lsb = i16-at bs 2 }
 
 -- The bytes that spell a value.
 abbrev pub u8-bytes : ℕ → List ℕ

@@ -68,15 +68,13 @@ pub trait ReadUnchecked {
 
     law some: { 1 ≤ size };
 
-    law few: { size ≤ 8 };
-
     fn size() -> usize
         ensures { λ r. ⌜ r ≡ size ⌝ };
 
-    fn read_unchecked(ctxt: &mut ReadCtxt<'_>) -> Self::HostType
-        requires { ⌜ size ≤ length (now (now ctxt .rest)) ⌝ }
-        ensures value { λ r. ⌜ r ≡ decode (take size (now (now (ctxt .entry) .rest))) ⌝ }
-        ensures rest { λ _. ⌜ now (now (ctxt .exit) .rest) ≡ drop size (now (now (ctxt .entry) .rest)) ⌝ };
+    /// What the bytes of one field say.
+    fn read_unchecked(bytes: &[u8]) -> Self::HostType
+        requires { ⌜ length (now bytes) ≡ size ⌝ }
+        ensures { λ r. ⌜ r ≡ decode (now (bytes .entry)) ⌝ };
 }
 
 impl<'a> ReadScope<'a> {
@@ -110,8 +108,8 @@ impl<'a> ReadCtxt<'a> {
     pub fn read<T: ReadUnchecked>(&mut self) -> Result<T::HostType, ParseError>
         ensures { λ r. ⌜ Takes (T·ReadUnchecked .size) (λ v bs. v ≡ T·ReadUnchecked .decode bs) BadEof (now (now (self .entry) .rest)) r (now (now (self .exit) .rest)) ⌝ }
     {
-        self.check_avail(T::size())?;
-        Ok(T::read_unchecked(self))
+        let bytes = self.read_slice(T::size())?;
+        Ok(T::read_unchecked(bytes))
     }
 
     fn check_avail(&self, n: usize) -> Result<(), ReadEof>

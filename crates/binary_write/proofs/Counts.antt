@@ -1,5 +1,5 @@
 -- A counter takes whatever there is space for.
-use Prim.Native.Nat.{ℕ, _+_, _-_, _≤_}
+use Prim.Native.Nat.{ℕ, _+_, _≤_}
 use lib.ListN.{length}
 use mathlib.Core.List.{List, _++_}
 use mathlib.Core.Path.{_≡_}
@@ -9,7 +9,7 @@ use Rattle.binary_write.specs.Meanings.{counter}
 use Rattle.binary_write.specs.Sinks.{Put}
 use Rattle.binary_write.specs.declared.counter.WriteCounter.{WriteCounter}
 
-pub counted : (bs : List ℕ) (s t : WriteCounter) → t .count ≡ s .count + length bs → length bs ≤ 4294967295 - s .count → Put counter bs s t
+pub counted : (bs : List ℕ) (s t : WriteCounter) → t .count ≡ s .count + length bs → s .count + length bs ≤ 4294967295 → Put counter bs s t
 counted bs s t e h =
     record {
       behind = λ xs p. omega (arith, length-append xs bs);

@@ -86,7 +86,7 @@ still-filled count sum n total bs h f e adds =
     ap (λ (k : ℕ). total % 256 ^ (4 - k)) (sym long)
     ∙ (ap (λ (k : ℕ). k % 256 ^ (4 - length (some .0 ++ bs))) (sym sums) ∙ checksum-filled (some .0 ++ bs))
 
-pub added-up : (bs : List ℕ) (s t : WriteChecksum) → t .count ≡ s .count + length bs → length bs ≤ 4294967295 - s .count → Adds (s .count) (s .sum) bs (t .sum) → Put summed bs s t
+pub added-up : (bs : List ℕ) (s t : WriteChecksum) → t .count ≡ s .count + length bs → s .count + length bs ≤ 4294967295 → Adds (s .count) (s .sum) bs (t .sum) → Put summed bs s t
 added-up bs s t e h adds =
     record {
       behind = λ xs p. (omega (arith, length-append xs bs, p .0), adds xs (p .0) (p .1));

@@ -1,22 +1,24 @@
 -- Values written one after the other to a sink.
 use Prim.Native.Nat.{ℕ, _+_, _*_, _/_, _<_, _≤_, suc}
-use borrow.Author.Tests.{le-leb}
+use borrow.Author.Tests.{le-leb, lt-leb}
 use lib.Dec.{leb}
-use lib.ListN.{length}
-use mathlib.Core.Bool.{true}
+use lib.ListN.{getD, length, take}
 use mathlib.Core.List.{List, [], _∷_, _++_}
+use mathlib.Core.Logic.{⊎-elim}
 use mathlib.Core.Path.{_≡_, refl, sym, ap, subst, _∙_}
-use native.Mathlib.Nat.{zero-mul, suc-mul, add-mul, div-lt-iff-lt-mul, div-mul-le-self, mul-le-mul-right}
+use native.Mathlib.Nat.{zero-mul, suc-mul, div-lt-iff-lt-mul, div-mul-le-self, mul-le-mul-right}
 use native.Mathlib.Omega.{arith}
 use Rattle.std.specs.Joined.{joined}
 use Rattle.std.specs.declared.result.Result.{Result}
 use Rattle.std.specs.declared.result.Result.the-variants.{Ok, Err}
-use Rattle.std.proofs.shelf.Lists.{append-assoc, append-nil, joined-more, length-append, length-push}
-use Rattle.std.proofs.shelf.Bits.{le-div}
+use Rattle.std.proofs.shelf.Lists.{append-assoc, append-nil, joined-more, length-append, length-push, length-take-le, take-more}
+use Rattle.std.proofs.shelf.Tests.{cases-lt}
 use Rattle.binary_write.specs.Sinks.{Meaning, Put, Puts}
 use Rattle.binary_write.specs.declared.error.WriteError.{WriteError}
-use Rattle.binary_write.specs.declared.error.WriteError.the-variants.{NoSpace}
-use Rattle.binary_write.proofs.Putting.{accepted, refused}
+
+-- What was accepted was not refused.
+pub not-both : (r : Result Unit WriteError) (e : WriteError) → r ≡ Ok tt → r ≡ Err e → ⊥
+not-both r e p q = let z : _≡_ {A = ℕ} 0 1 = cc in omega arith
 
 module _ {S : Type 0} (m : Meaning S) where
   pub put-none : (s : S) → Put m [] s s
@@ -46,20 +48,20 @@ module _ {S : Type 0} (m : Meaning S) where
     joined-length (v ∷ vs) =
         length-append (encode v) (joined encode vs) ∙ omega (arith, exact v, joined-length vs, suc-mul (length vs) size)
 
-    -- `n` is the space, asked for, and `k` the size: there is no space for all values,
-    pub too-long : (vs : List A) (s : S) (n k : ℕ) → n ≡ m .space s → k ≡ size → 0 < size → n / k < length vs → Puts m (joined encode vs) s (Err NoSpace) s
-    too-long vs s n k p q pos h =
-        let over : m .space s / size < length vs = subst (λ (j : ℕ). m .space s / j < length vs) q (subst (λ (j : ℕ). j / k < length vs) p h) in
-        let long : m .space s < length vs * size = div-lt-iff-lt-mul pos .0 over in
-        refused m (joined encode vs) s (omega (arith, joined-length vs))
-
-    -- or there is.
-    pub room-for : (vs : List A) (s : S) (n k : ℕ) → n ≡ m .space s → k ≡ size → length vs ≤ n / k → length (joined encode vs) ≤ m .space s
-    room-for vs s n k p q h =
-        let whole : length vs * k ≤ n / k * k = mul-le-mul-right k h in
-        let inside : n / k * k ≤ n = div-mul-le-self n k in
-        let same : length vs * k ≡ length vs * size = ap (λ (j : ℕ). length vs * j) q in
-        omega (arith, joined-length vs)
+    -- `n` is the space, asked for, and `k` the size.
+    pub room-for : (vs : List A) (s : S) (n k : ℕ) → n ≡ m .space s → k ≡ size → 0 < size → leb (length vs) (n / k) ≡ leb (length (joined encode vs)) (m .space s)
+    room-for vs s n k p q pos =
+        let long = joined-length vs in
+        let same : n / k ≡ m .space s / size = ap (λ (j : ℕ). j / k) p ∙ ap (λ (j : ℕ). m .space s / j) q in
+        ⊎-elim
+        (λ (h : m .space s / size < length vs).
+        let over : m .space s < length vs * size = div-lt-iff-lt-mul pos .0 h in
+        lt-leb (length vs) (n / k) (omega arith) ∙ sym (lt-leb (length (joined encode vs)) (m .space s) (omega arith)))
+        (λ (h : length vs ≤ m .space s / size).
+        let whole : length vs * size ≤ m .space s / size * size = mul-le-mul-right size h in
+        let inside : m .space s / size * size ≤ m .space s = div-mul-le-self (m .space s) size in
+        le-leb (length vs) (n / k) (omega arith) ∙ sym (le-leb (length (joined encode vs)) (m .space s) (omega arith)))
+        (cases-lt (m .space s / size) (length vs))
 
     -- One value more.
     pub next : (vs : List A) (v : A) (s t u : S) (r : Result Unit WriteError) → Put m (joined encode vs) s t → length (joined encode (vs ++ v ∷ [])) ≤ m .space s → Puts m (encode v) t r u → (r ≡ Ok tt) × Put m (joined encode (vs ++ v ∷ [])) s u
@@ -73,11 +75,14 @@ module _ {S : Type 0} (m : Meaning S) where
         (got .0, subst (λ (bs : List ℕ). Put m bs s u) whole both)
 
     -- One turn of a walk over `all`, with space for all of it.
-    pub turn : (all vs : List A) (v : A) (n k : ℕ) (s t u : S) (r : Result Unit WriteError) → n ≡ m .space s → k ≡ size → length all ≤ n / k → length vs < length all → Put m (joined encode vs) s t → Puts m (encode v) t r u → (r ≡ Ok tt) × Put m (joined encode (vs ++ v ∷ [])) s u
-    turn all vs v n k s t u r p q h short done put =
-        next vs v s t u r done (room-for (vs ++ v ∷ []) s n k p q (omega (arith, length-push vs v))) put
+    pub turn : (all vs : List A) (v : A) (s t u : S) (r : Result Unit WriteError) → length (joined encode all) ≤ m .space s → length vs < length all → Put m (joined encode vs) s t → Puts m (encode v) t r u → (r ≡ Ok tt) × Put m (joined encode (vs ++ v ∷ [])) s u
+    turn all vs v s t u r room short done put =
+        let more : length (vs ++ v ∷ []) * size ≤ length all * size = mul-le-mul-right size (omega (arith, length-push vs v)) in
+        next vs v s t u r done (omega (arith, joined-length (vs ++ v ∷ []), joined-length all)) put
 
-    -- A walk that came to the end.
-    pub walked : (all vs : List A) (n k : ℕ) (s t : S) → n ≡ m .space s → k ≡ size → length all ≤ n / k → vs ≡ all → Put m (joined encode vs) s t → Puts m (joined encode all) s (Ok tt) t
-    walked all vs n k s t p q h e done =
-        accepted m (joined encode all) s t (room-for all s n k p q h) (subst (λ (ws : List A). Put m (joined encode ws) s t) e done)
+    -- The same at an index.
+    pub turn-at : (all : List A) (i : ℕ) (v : A) (s t u : S) (r : Result Unit WriteError) → length (joined encode all) ≤ m .space s → i < length all → v ≡ getD all i v → Put m (joined encode (take i all)) s t → Puts m (encode v) t r u → (r ≡ Ok tt) × Put m (joined encode (take (i + 1) all)) s u
+    turn-at all i v s t u r room low is done put =
+        let e : take (i + 1) all ≡ take i all ++ v ∷ [] = take-more all i v low ∙ ap (λ (x : A). take i all ++ x ∷ []) (sym is) in
+        let got = turn all (take i all) v s t u r room (omega (arith, length-take-le i all (omega arith))) done put in
+        (got .0, subst (λ (ws : List A). Put m (joined encode ws) s u) (sym e) (got .1))

@@ -1,7 +1,7 @@
 -- What a sink means, and what a put does to it.
 use Prim.Native.Nat.{ℕ, _+_}
 use lib.Dec.{leb}
-use lib.ListN.{length}
+use lib.ListN.{length, replicate}
 use mathlib.Core.List.{List, [], _++_}
 use mathlib.Core.Path.{_≡_}
 use Rattle.std.specs.Orderings.{When}
@@ -32,3 +32,7 @@ module _ {S : Type 0} (m : Meaning S) where
   -- A put of the bytes `bs`: accepted where there is space for all of them, and else refused, with nothing altered.
   abbrev pub Puts : List ℕ → S → Result Unit WriteError → S → Type 0
   Puts bs s r t = When (leb (length bs) (m .space s)) ((r ≡ Ok tt) × Put bs s t) ((r ≡ Err NoSpace) × (t ≡ s))
+
+  -- A put of `n` zeros, likewise.
+  abbrev pub Zeros : ℕ → S → Result Unit WriteError → S → Type 0
+  Zeros n s r t = When (leb n (m .space s)) ((r ≡ Ok tt) × Put (replicate n 0) s t) ((r ≡ Err NoSpace) × (t ≡ s))

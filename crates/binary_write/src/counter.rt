@@ -1,6 +1,10 @@
 //! A sink that only counts.
+ghost use Prim.Native.Nat.{ℕ, _+_, _≤_};
 ghost use Rattle.binary_write.specs.Meanings as means;
-ghost use Rattle.binary_write.specs.Sinks.{New};
+ghost use Rattle.binary_write.specs.Sinks.{New, Put};
+ghost use lib.ListN.{length, replicate};
+ghost use mathlib.Core.List.{List};
+ghost use mathlib.Core.Path.{_≡_};
 use crate::WriteContext;
 use crate::error::WriteError;
 
@@ -17,6 +21,14 @@ impl WriteCounter {
     {
         WriteCounter { count: 0 }
     }
+
+    fn advance(&mut self, n: usize)
+        requires { ⌜ now self .count + n ≤ 4294967295 ⌝ }
+        ensures bytes { λ _. ⌜ ((bs : List ℕ) → length bs ≡ n → Put means.counter bs (now (self .entry)) (now (self .exit))) ⌝ }
+        ensures zeros { λ _. ⌜ Put means.counter (replicate n 0) (now (self .entry)) (now (self .exit)) ⌝ }
+    {
+        self.count += n as u32;
+    }
 }
 
 pub impl WriteContext for WriteCounter as CounterSink {
@@ -27,7 +39,7 @@ pub impl WriteContext for WriteCounter as CounterSink {
         if n > (u32::MAX - self.count) as usize {
             return Err(WriteError::NoSpace);
         }
-        self.count += n as u32;
+        self.advance(n);
         Ok(())
     }
 
@@ -35,7 +47,7 @@ pub impl WriteContext for WriteCounter as CounterSink {
         if n > (u32::MAX - self.count) as usize {
             return Err(WriteError::NoSpace);
         }
-        self.count += n as u32;
+        self.advance(n);
         Ok(())
     }
 

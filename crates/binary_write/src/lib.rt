@@ -1,8 +1,8 @@
 //! Writing of binary data to sinks.
 ghost use Prim.Native.Nat.{ℕ};
-ghost use Rattle.binary_write.specs.Sinks.{Meaning, Puts};
+ghost use Rattle.binary_write.specs.Sinks.{Meaning, Puts, Zeros};
 ghost use denote.Ref.{now};
-ghost use lib.ListN.{length, replicate};
+ghost use lib.ListN.{length};
 ghost use mathlib.Core.List.{List};
 ghost use mathlib.Core.Path.{_≡_};
 use crate::error::WriteError;
@@ -47,7 +47,7 @@ pub trait WriteContext {
 
     /// Writes `n` zero bytes, all of them or none.
     fn write_zeros(&mut self, n: usize) -> Result<(), WriteError>
-        ensures { λ r. ⌜ Puts meaning (replicate n 0) (now (self .entry)) r (now (self .exit)) ⌝ };
+        ensures { λ r. ⌜ Zeros meaning n (now (self .entry)) r (now (self .exit)) ⌝ };
 
     /// How many bytes were written so far.
     fn bytes_written(&self) -> usize

@@ -87,7 +87,9 @@ fn show_verdict<W: fmt::Write>(
         _ => {
             let [.., boxes, last] = header.spans();
             let behind_bitmap = boxes.place.saturating_add(bitmap as u64);
-            let end = last.place.saturating_add(u64::from(last.size)).max(behind_bitmap);
+            let end = last.place
+                .saturating_add(u64::from(last.size))
+                .max(behind_bitmap);
             writeln!(
                 f,
                 "refused         {number}: the streams end at {end}, and the table has only {bytes} bytes: it was cut short, or a size in its header is wrong"

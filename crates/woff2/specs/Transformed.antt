@@ -12,7 +12,7 @@ use Rattle.std.specs.declared.option.Option.{Option}
 use Rattle.std.specs.declared.option.Option.the-variants.{None, Some}
 use Rattle.std.specs.declared.result.Result.{Result}
 use Rattle.std.specs.declared.result.Result.the-variants.{Err}
-use Rattle.binary.specs.Bytes.{u16-said, u32-said}
+use Rattle.binary.specs.Bytes.{u16-at, u32-at}
 use Rattle.binary.specs.declared.error.ParseError.{ParseError}
 use Rattle.binary.specs.declared.error.ParseError.the-variants.{BadEof, BadValue}
 use Rattle.woff2.specs.declared.header.GlyfHeader.{GlyfHeader}
@@ -23,15 +23,15 @@ use Rattle.woff2.specs.declared.table.TransformedGlyphTable.{TransformedGlyphT
 abbrev pub header-said : List ℕ → GlyfHeader
 header-said bs =
     record {
-      «num_glyphs» = u16-said (drop 4 bs);
-      «index_format» = u16-said (drop 6 bs);
-      «n_contour_size» = u32-said (drop 8 bs);
-      «n_points_size» = u32-said (drop 12 bs);
-      «flag_size» = u32-said (drop 16 bs);
-      «glyph_size» = u32-said (drop 20 bs);
-      «composite_size» = u32-said (drop 24 bs);
-      «bbox_size» = u32-said (drop 28 bs);
-      «instruction_size» = u32-said (drop 32 bs);
+      «num_glyphs» = u16-at bs 4;
+      «index_format» = u16-at bs 6;
+      «n_contour_size» = u32-at bs 8;
+      «n_points_size» = u32-at bs 12;
+      «flag_size» = u32-at bs 16;
+      «glyph_size» = u32-at bs 20;
+      «composite_size» = u32-at bs 24;
+      «bbox_size» = u32-at bs 28;
+      «instruction_size» = u32-at bs 32;
     }
 
 -- A bit for each glyph, in whole words of 32.

@@ -23,11 +23,17 @@ impl<'a> BitSlice<'a> {
     pub fn get(&self, index: usize) -> Option<bool>
         ensures { λ r. ⌜ r ≡ nth (bits (now (now (self .entry) .bytes))) index ⌝ }
     {
-        if index / 8 >= self.bytes.len() {
-            return None;
-        }
-        Some(bit(self.bytes[index / 8], index % 8))
+        bit_at(self.bytes, index)
     }
+}
+
+fn bit_at(bytes: &[u8], index: usize) -> Option<bool>
+    ensures { λ r. ⌜ r ≡ nth (bits (now (bytes .entry))) index ⌝ }
+{
+    if index / 8 >= bytes.len() {
+        return None;
+    }
+    Some(bit(bytes[index / 8], index % 8))
 }
 
 // The bit of a byte, counted from the highest.

@@ -1,6 +1,6 @@
 //! The header of a transformed glyf table.
 ghost use Prim.Native.Nat.{_+_, _^_, _<_, _≤_};
-ghost use Rattle.binary.specs.Bytes.{u16-said, u32-said};
+ghost use Rattle.binary.specs.Bytes.{u16-at, u32-at};
 ghost use Rattle.binary.specs.declared.error.ParseError.the-variants.{BadEof};
 ghost use Rattle.std.specs.Orderings.{When};
 ghost use Rattle.std.specs.Results.{Cases};
@@ -9,7 +9,7 @@ ghost use Rattle.std.specs.declared.result.Result.the-variants.{Ok, Err};
 ghost use Rattle.woff2.specs.Transformed.{bitmap-size, boxes-at, header-said, spans-of, streams-fault};
 ghost use denote.Ref.{now};
 ghost use lib.Dec.{leb};
-ghost use lib.ListN.{drop, length};
+ghost use lib.ListN.{length};
 ghost use mathlib.Core.Path.{_≡_};
 use binary::error::ParseError;
 
@@ -139,14 +139,14 @@ impl GlyfHeader {
 
 fn u16_at(data: &[u8], at: usize) -> u16
     requires { ⌜ at + 2 ≤ length (now «data») ⌝ }
-    ensures { λ r. ⌜ r ≡ u16-said (drop at (now («data» .entry))) ⌝ }
+    ensures { λ r. ⌜ r ≡ u16-at (now («data» .entry)) at ⌝ }
 {
     u16::from_be_bytes([data[at], data[at + 1]])
 }
 
 fn u32_at(data: &[u8], at: usize) -> u32
     requires { ⌜ at + 4 ≤ length (now «data») ⌝ }
-    ensures { λ r. ⌜ r ≡ u32-said (drop at (now («data» .entry))) ⌝ }
+    ensures { λ r. ⌜ r ≡ u32-at (now («data» .entry)) at ⌝ }
 {
     u32::from_be_bytes([data[at], data[at + 1], data[at + 2], data[at + 3]])
 }

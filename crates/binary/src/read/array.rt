@@ -3,11 +3,11 @@ ghost use Prim.Native.Nat.{_+_, _*_, _/_, _<_, _≤_};
 ghost use Rattle.binary.specs.Arrays.{fields};
 ghost use Rattle.std.specs.Finite.{nth};
 ghost use Rattle.std.specs.Options.{Cases};
+ghost use Rattle.std.specs.declared.option.Option.the-variants.{None, Some};
 ghost use denote.Ref.{now};
 ghost use lib.ListN.{length};
 ghost use mathlib.Core.List.{[], _∷_};
 ghost use mathlib.Core.Path.{_≡_};
-use super::ReadCtxt;
 use super::ReadUnchecked;
 use std::marker::PhantomData;
 
@@ -30,29 +30,15 @@ impl<'a, T: ReadUnchecked> ReadArray<'a, T> {
     pub fn len(&self) -> usize
         ensures { λ r. ⌜ r ≡ length (fields (T·ReadUnchecked .size) (T·ReadUnchecked .decode) (now (now (self .entry) .bytes))) ⌝ }
     {
-        self.bytes.len() / T::size()
+        whole_fields::<T>(self.bytes)
     }
 
     /// The field at an index, where there is one.
     pub fn get_item(&self, index: usize) -> Option<T::HostType>
         ensures { λ r. ⌜ r ≡ nth (fields (T·ReadUnchecked .size) (T·ReadUnchecked .decode) (now (now (self .entry) .bytes))) index ⌝ }
     {
-        let at = self.place(index)?;
-        let mut ctxt = ReadCtxt {
-            rest: &self.bytes[at..],
-        };
-        Some(T::read_unchecked(&mut ctxt))
-    }
-
-    // Where the field at an index begins. All of it is there.
-    fn place(&self, index: usize) -> Option<usize>
-        ensures { λ r. ⌜ Cases r (length (now (now (self .entry) .bytes)) / T·ReadUnchecked .size ≤ index) (λ at. (index < length (now (now (self .entry) .bytes)) / T·ReadUnchecked .size) × (at ≡ index * T·ReadUnchecked .size) × (at + T·ReadUnchecked .size ≤ length (now (now (self .entry) .bytes)))) ⌝ }
-    {
-        if index < self.len() {
-            Some(index * T::size())
-        } else {
-            None
-        }
+        let item = field_bytes::<T>(self.bytes, index)?;
+        Some(T::read_unchecked(item))
     }
 
     pub fn iter(&self) -> ReadArrayIter<'a, T>
@@ -75,12 +61,46 @@ pub impl<'a, T: ReadUnchecked> Iterator for ReadArrayIter<'a, T> as ReadArrayIte
     ghost left = { λ s. length (now (s .bytes)) };
 
     fn next(&mut self) -> Option<T::HostType> {
-        if self.bytes.len() < T::size() {
-            return None;
-        }
-        let mut ctxt = ReadCtxt { rest: self.bytes };
-        let value = T::read_unchecked(&mut ctxt);
-        self.bytes = ctxt.rest;
-        Some(value)
+        let (first, rest) = first_field::<T>(self.bytes)?;
+        self.bytes = rest;
+        Some(T::read_unchecked(first))
     }
+}
+
+// How many whole fields some bytes hold.
+fn whole_fields<T: ReadUnchecked>(bytes: &[u8]) -> usize
+    ensures { λ r. ⌜ r ≡ length (fields (T·ReadUnchecked .size) (T·ReadUnchecked .decode) (now (bytes .entry))) ⌝ }
+{
+    bytes.len() / T::size()
+}
+
+// Where the field at an index begins in `len` bytes. All of it is there.
+fn place<T: ReadUnchecked>(len: usize, index: usize) -> Option<usize>
+    ensures { λ r. ⌜ Cases r (len / T·ReadUnchecked .size ≤ index) (λ at. (index < len / T·ReadUnchecked .size) × (at ≡ index * T·ReadUnchecked .size) × (at + T·ReadUnchecked .size ≤ len)) ⌝ }
+{
+    let size = T::size();
+    if index < len / size {
+        Some(index * size)
+    } else {
+        None
+    }
+}
+
+// The bytes of the field at an index.
+fn field_bytes<'a, T: ReadUnchecked>(bytes: &'a [u8], index: usize) -> Option<&'a [u8]>
+    ensures { λ r. ⌜ Cases r (nth (fields (T·ReadUnchecked .size) (T·ReadUnchecked .decode) (now (bytes .entry))) index ≡ None) (λ item. (length (now item) ≡ T·ReadUnchecked .size) × (nth (fields (T·ReadUnchecked .size) (T·ReadUnchecked .decode) (now (bytes .entry))) index ≡ Some (T·ReadUnchecked .decode (now item)))) ⌝ }
+{
+    let at = place::<T>(bytes.len(), index)?;
+    let end = at + T::size();
+    Some(&bytes[at..end])
+}
+
+// The bytes of the first field, and those behind it.
+fn first_field<'a, T: ReadUnchecked>(bytes: &'a [u8]) -> Option<(&'a [u8], &'a [u8])>
+    ensures { λ r. ⌜ Cases r (fields (T·ReadUnchecked .size) (T·ReadUnchecked .decode) (now (bytes .entry)) ≡ []) (λ p. (length (now (p .0)) ≡ T·ReadUnchecked .size) × (fields (T·ReadUnchecked .size) (T·ReadUnchecked .decode) (now (bytes .entry)) ≡ T·ReadUnchecked .decode (now (p .0)) ∷ fields (T·ReadUnchecked .size) (T·ReadUnchecked .decode) (now (p .1))) × (length (now (p .1)) < length (now (bytes .entry)))) ⌝ }
+{
+    if bytes.len() < T::size() {
+        return None;
+    }
+    Some(bytes.split_at(T::size()))
 }

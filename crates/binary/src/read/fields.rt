@@ -3,7 +3,6 @@ ghost use Prim.Native.Nat.{_^_, _<_};
 ghost use Rattle.binary.specs.Bytes.{u8-said, i8-said, u16-said, i16-said, u32-said, f2dot14-said, box-said, metric-said, u8-bytes, i8-bytes, u16-bytes, i16-bytes, u32-bytes, f2dot14-bytes, box-bytes, metric-bytes};
 ghost use mir.Syntax.{w8, w16};
 ghost use mir.Val.{SFits};
-use super::ReadCtxt;
 use super::ReadUnchecked;
 use crate::BoundingBox;
 use crate::F2Dot14;
@@ -29,9 +28,7 @@ pub impl ReadUnchecked for U8 as U8Field {
         1
     }
 
-    fn read_unchecked(ctxt: &mut ReadCtxt<'_>) -> u8 {
-        let bytes = ctxt.rest;
-        ctxt.rest = &bytes[1..];
+    fn read_unchecked(bytes: &[u8]) -> u8 {
         bytes[0]
     }
 }
@@ -51,8 +48,8 @@ pub impl ReadUnchecked for I8 as I8Field {
         1
     }
 
-    fn read_unchecked(ctxt: &mut ReadCtxt<'_>) -> i8 {
-        U8::read_unchecked(ctxt).cast_signed()
+    fn read_unchecked(bytes: &[u8]) -> i8 {
+        i8::from_be_bytes([bytes[0]])
     }
 }
 
@@ -71,9 +68,7 @@ pub impl ReadUnchecked for U16Be as U16BeField {
         2
     }
 
-    fn read_unchecked(ctxt: &mut ReadCtxt<'_>) -> u16 {
-        let bytes = ctxt.rest;
-        ctxt.rest = &bytes[2..];
+    fn read_unchecked(bytes: &[u8]) -> u16 {
         u16::from_be_bytes([bytes[0], bytes[1]])
     }
 }
@@ -93,8 +88,8 @@ pub impl ReadUnchecked for I16Be as I16BeField {
         2
     }
 
-    fn read_unchecked(ctxt: &mut ReadCtxt<'_>) -> i16 {
-        U16Be::read_unchecked(ctxt).cast_signed()
+    fn read_unchecked(bytes: &[u8]) -> i16 {
+        i16::from_be_bytes([bytes[0], bytes[1]])
     }
 }
 
@@ -113,9 +108,7 @@ pub impl ReadUnchecked for U32Be as U32BeField {
         4
     }
 
-    fn read_unchecked(ctxt: &mut ReadCtxt<'_>) -> u32 {
-        let bytes = ctxt.rest;
-        ctxt.rest = &bytes[4..];
+    fn read_unchecked(bytes: &[u8]) -> u32 {
         u32::from_be_bytes([bytes[0], bytes[1], bytes[2], bytes[3]])
     }
 }
@@ -135,8 +128,8 @@ pub impl ReadUnchecked for F2Dot14 as F2Dot14Field {
         2
     }
 
-    fn read_unchecked(ctxt: &mut ReadCtxt<'_>) -> F2Dot14 {
-        F2Dot14(I16Be::read_unchecked(ctxt))
+    fn read_unchecked(bytes: &[u8]) -> F2Dot14 {
+        F2Dot14(i16::from_be_bytes([bytes[0], bytes[1]]))
     }
 }
 
@@ -155,16 +148,12 @@ pub impl ReadUnchecked for BoundingBox as BoundingBoxField {
         8
     }
 
-    fn read_unchecked(ctxt: &mut ReadCtxt<'_>) -> BoundingBox {
-        let x_min = I16Be::read_unchecked(ctxt);
-        let y_min = I16Be::read_unchecked(ctxt);
-        let x_max = I16Be::read_unchecked(ctxt);
-        let y_max = I16Be::read_unchecked(ctxt);
+    fn read_unchecked(bytes: &[u8]) -> BoundingBox {
         BoundingBox {
-            x_min,
-            y_min,
-            x_max,
-            y_max,
+            x_min: i16::from_be_bytes([bytes[0], bytes[1]]),
+            y_min: i16::from_be_bytes([bytes[2], bytes[3]]),
+            x_max: i16::from_be_bytes([bytes[4], bytes[5]]),
+            y_max: i16::from_be_bytes([bytes[6], bytes[7]]),
         }
     }
 }
@@ -184,9 +173,10 @@ pub impl ReadUnchecked for LongHorMetric as LongHorMetricField {
         4
     }
 
-    fn read_unchecked(ctxt: &mut ReadCtxt<'_>) -> LongHorMetric {
-        let advance_width = U16Be::read_unchecked(ctxt);
-        let lsb = I16Be::read_unchecked(ctxt);
-        LongHorMetric { advance_width, lsb }
+    fn read_unchecked(bytes: &[u8]) -> LongHorMetric {
+        LongHorMetric {
+            advance_width: u16::from_be_bytes([bytes[0], bytes[1]]),
+            lsb: i16::from_be_bytes([bytes[2], bytes[3]]),
+        }
     }
 }

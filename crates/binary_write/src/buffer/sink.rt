@@ -1,10 +1,9 @@
 //! The buffer as a sink.
-ghost use Prim.Native.Nat.{min};
+ghost use Prim.Native.Nat.{_≤_, min};
 ghost use Rattle.binary_write.specs.Meanings as means;
-ghost use Rattle.binary_write.specs.Sinks.{New};
-ghost use Rattle.std.specs.Of.Vec.{vec-len, vec-items};
-ghost use lib.ListN.{take};
-ghost use mathlib.Core.Path.{_≡_};
+ghost use Rattle.binary_write.specs.Sinks.{New, Put};
+ghost use Rattle.std.specs.Of.Vec.{vec-len};
+ghost use lib.ListN.{length, replicate};
 use crate::WriteContext;
 use crate::buffer::WriteBuffer;
 use crate::error::WriteError;
@@ -28,31 +27,45 @@ impl WriteBuffer {
     {
         &self.bytes[0..self.written]
     }
+
+    fn store(&mut self, bytes: &[u8])
+        requires { ⌜ length (now bytes) ≤ now self .space ⌝ }
+        ensures { λ _. ⌜ Put means.buffer (now (bytes .entry)) (now (self .entry)) (now (self .exit)) ⌝ }
+    {
+        let at = self.written;
+        let n = bytes.len();
+        self.bytes[at..at + n].copy_from_slice(bytes);
+        self.written = at + n;
+        self.space -= n;
+    }
+
+    fn store_zeros(&mut self, n: usize)
+        requires { ⌜ n ≤ now self .space ⌝ }
+        ensures { λ _. ⌜ Put means.buffer (replicate n 0) (now (self .entry)) (now (self .exit)) ⌝ }
+    {
+        let at = self.written;
+        self.bytes[at..at + n].fill(0);
+        self.written = at + n;
+        self.space -= n;
+    }
 }
 
 pub impl WriteContext for WriteBuffer as BufferSink {
     ghost meaning = { means.buffer };
 
     fn write_bytes(&mut self, bytes: &[u8]) -> Result<(), WriteError> {
-        let n = bytes.len();
-        if self.space < n {
+        if bytes.len() > self.space {
             return Err(WriteError::NoSpace);
         }
-        let at = self.written;
-        self.bytes[at..at + n].copy_from_slice(bytes);
-        self.written = at + n;
-        self.space -= n;
+        self.store(bytes);
         Ok(())
     }
 
     fn write_zeros(&mut self, n: usize) -> Result<(), WriteError> {
-        if self.space < n {
+        if n > self.space {
             return Err(WriteError::NoSpace);
         }
-        let at = self.written;
-        self.bytes[at..at + n].fill(0);
-        self.written = at + n;
-        self.space -= n;
+        self.store_zeros(n);
         Ok(())
     }
 

@@ -1,9 +1,9 @@
 //! The checksum as a sink.
-ghost use Prim.Native.Nat.{ℕ, _-_, _*_, _%_, _^_};
+ghost use Prim.Native.Nat.{ℕ, _+_, _-_, _*_, _%_, _^_, _≤_};
 ghost use Rattle.binary_write.specs.Checksums.{checksum};
 ghost use Rattle.binary_write.specs.Meanings as means;
-ghost use Rattle.binary_write.specs.Sinks.{New};
-ghost use lib.ListN.{length};
+ghost use Rattle.binary_write.specs.Sinks.{New, Put};
+ghost use lib.ListN.{length, replicate};
 ghost use mathlib.Core.List.{List, _++_};
 ghost use mathlib.Core.Path.{_≡_};
 use crate::WriteContext;
@@ -23,6 +23,21 @@ impl WriteChecksum {
         ensures { λ r. ⌜ r ≡ now (self .entry) .sum ⌝ }
     {
         self.sum
+    }
+
+    fn add(&mut self, bytes: &[u8])
+        requires { ⌜ now self .count + length (now bytes) ≤ 4294967295 ⌝ }
+        ensures { λ _. ⌜ Put means.summed (now (bytes .entry)) (now (self .entry)) (now (self .exit)) ⌝ }
+    {
+        self.sum = added(self.sum, self.count, bytes);
+        self.count += bytes.len() as u32;
+    }
+
+    fn add_zeros(&mut self, n: usize)
+        requires { ⌜ now self .count + n ≤ 4294967295 ⌝ }
+        ensures { λ _. ⌜ Put means.summed (replicate n 0) (now (self .entry)) (now (self .exit)) ⌝ }
+    {
+        self.count += n as u32;
     }
 }
 
@@ -56,12 +71,10 @@ pub impl WriteContext for WriteChecksum as ChecksumSink {
     ghost meaning = { means.summed };
 
     fn write_bytes(&mut self, bytes: &[u8]) -> Result<(), WriteError> {
-        let n = bytes.len();
-        if n > (u32::MAX - self.count) as usize {
+        if bytes.len() > (u32::MAX - self.count) as usize {
             return Err(WriteError::NoSpace);
         }
-        self.sum = added(self.sum, self.count, bytes);
-        self.count += n as u32;
+        self.add(bytes);
         Ok(())
     }
 
@@ -69,7 +82,7 @@ pub impl WriteContext for WriteChecksum as ChecksumSink {
         if n > (u32::MAX - self.count) as usize {
             return Err(WriteError::NoSpace);
         }
-        self.count += n as u32;
+        self.add_zeros(n);
         Ok(())
     }
 
