@@ -1,5 +1,5 @@
 -- Big-endian numbers: what the bytes of a field say, and how a value is spelled.
-use Prim.Native.Nat.{ℕ, _+_, _*_, _/_, _%_, _<_}
+use Prim.Native.Nat.{ℕ, _+_, _*_, _/_, _%_}
 use mathlib.Core.List.{List, [], _∷_, _++_}
 use lib.IntN.{ℤ}
 use lib.ListN.{getD}
@@ -8,11 +8,6 @@ use mir.Val.{toZ, ofZ}
 use Rattle.binary.specs.declared.BoundingBox.{BoundingBox}
 use Rattle.binary.specs.declared.F2Dot14.{F2Dot14}
 use Rattle.binary.specs.declared.LongHorMetric.{LongHorMetric}
-
--- Every element of the list is a byte.
-abbrev pub AllBytes : List ℕ → Type 0
-AllBytes [] = Unit {0}
-AllBytes (b ∷ bs) = (b < 256) × AllBytes bs
 
 -- What the bytes from a place on say. Signed numbers are in two's complement.
 abbrev pub u16-at : List ℕ → ℕ → ℕ

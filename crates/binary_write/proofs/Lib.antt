@@ -1,4 +1,1 @@
-pub mod Counts
-pub mod Buffers
-pub mod Sums
 pub mod Walks

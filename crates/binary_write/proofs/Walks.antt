@@ -13,8 +13,8 @@ use Rattle.std.specs.declared.result.Result.{Result}
 use Rattle.std.specs.declared.result.Result.the-variants.{Ok, Err}
 use Rattle.std.proofs.shelf.Lists.{append-assoc, append-nil, joined-more, length-append, length-push, length-take-le, take-more}
 use Rattle.std.proofs.shelf.Tests.{cases-lt}
-use Rattle.binary_write.specs.Sinks.{Meaning, Put, Puts}
-use Rattle.binary_write.specs.declared.error.WriteError.{WriteError}
+use Rattle.write.specs.Sinks.{Meaning, Put, Puts}
+use Rattle.write.specs.declared.error.WriteError.{WriteError}
 
 -- What was accepted was not refused.
 pub not-both : (r : Result Unit WriteError) (e : WriteError) → r ≡ Ok tt → r ≡ Err e → ⊥

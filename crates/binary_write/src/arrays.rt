@@ -1,6 +1,6 @@
 //! Arrays and slices of fields written to any sink.
-ghost use Rattle.binary.specs.Arrays.{fields};
-ghost use Rattle.binary_write.specs.Sinks.{Put, Puts};
+ghost use Rattle.read.specs.Arrays.{fields};
+ghost use Rattle.write.specs.Sinks.{Put, Puts};
 ghost use Rattle.std.specs.Joined.{joined};
 ghost use Rattle.std.specs.declared.result.Result.the-variants.{Ok};
 ghost use lib.Dec.{leb};
@@ -8,11 +8,11 @@ ghost use lib.ListN.{length};
 ghost use mathlib.Core.List.{List};
 ghost use mathlib.Core.Path.{_≡_};
 ghost use Prim.Native.Nat.{_≤_};
-use crate::WriteContext;
-use crate::error::WriteError;
 use crate::fields::WriteBinary;
-use binary::read::ReadArray;
-use binary::read::ReadArrayIterIterator;
+use read::ReadArray;
+use read::ReadArrayIterIterator;
+use write::WriteContext;
+use write::error::WriteError;
 
 /// Writes the fields of an array, all of them or none.
 pub fn write_array<T: WriteBinary, C: WriteContext>(

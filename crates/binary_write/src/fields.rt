@@ -1,24 +1,24 @@
 //! Fields written to any sink.
-ghost use Rattle.binary_write.specs.Sinks.{Puts};
-use crate::WriteContext;
-use crate::error::WriteError;
+ghost use Rattle.write.specs.Sinks.{Puts};
 use binary::BoundingBox;
+use binary::BoundingBoxField;
 use binary::F2Dot14;
+use binary::F2Dot14Field;
 use binary::I8;
+use binary::I8Field;
 use binary::I16Be;
+use binary::I16BeField;
 use binary::LongHorMetric;
+use binary::LongHorMetricField;
 use binary::U8;
+use binary::U8Field;
 use binary::U16Be;
+use binary::U16BeField;
 use binary::U32Be;
-use binary::read::BoundingBoxField;
-use binary::read::F2Dot14Field;
-use binary::read::I8Field;
-use binary::read::I16BeField;
-use binary::read::LongHorMetricField;
-use binary::read::ReadUnchecked;
-use binary::read::U8Field;
-use binary::read::U16BeField;
-use binary::read::U32BeField;
+use binary::U32BeField;
+use read::ReadUnchecked;
+use write::WriteContext;
+use write::error::WriteError;
 
 /// A kind of field that can be written: the bytes that spell the value, all of them or none.
 pub trait WriteBinary: ReadUnchecked {

@@ -9,9 +9,9 @@ use Rattle.std.specs.Results.{Cases}
 use Rattle.std.specs.declared.option.Option.the-variants.{None, Some}
 use Rattle.std.specs.declared.result.Result.{Result}
 use Rattle.std.specs.declared.result.Result.the-variants.{Ok, Err}
-use Rattle.binary.specs.declared.error.ParseError.{ParseError}
-use Rattle.binary.specs.declared.error.ParseError.the-variants.{BadEof}
-use Rattle.binary_write.specs.Checksums.{checksum}
+use Rattle.read.specs.declared.error.ParseError.{ParseError}
+use Rattle.read.specs.declared.error.ParseError.the-variants.{BadEof}
+use Rattle.write.specs.Checksums.{checksum}
 use Rattle.woff2.specs.Transformed.{header-said, streams-fault}
 use Rattle.woff2.specs.declared.header.GlyfHeader.{GlyfHeader}
 use Rattle.report.specs.declared.report.Report.{Report}

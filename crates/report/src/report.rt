@@ -1,20 +1,20 @@
 //! The facts of a report.
 ghost use Prim.Native.Nat.{_<_};
-ghost use Rattle.binary_write.specs.Checksums.{checksum};
-ghost use Rattle.binary_write.specs.declared.error.WriteError.the-variants.{NoSpace};
+ghost use Rattle.write.specs.Checksums.{checksum};
+ghost use Rattle.write.specs.declared.error.WriteError.the-variants.{NoSpace};
 ghost use Rattle.report.specs.Reports.{Checked, Reported};
 ghost use Rattle.std.specs.Results.{Cases};
 ghost use denote.Ref.{now};
 ghost use lib.ListN.{length};
 ghost use mathlib.Core.Path.{_≡_};
-use binary::error::ParseError;
-use binary_write::ChecksumSink;
-use binary_write::CounterSink;
-use binary_write::WriteChecksum;
-use binary_write::WriteContext;
-use binary_write::WriteCounter;
-use binary_write::error::WriteError;
+use read::error::ParseError;
 use woff2::GlyfHeader;
+use write::ChecksumSink;
+use write::CounterSink;
+use write::WriteChecksum;
+use write::WriteContext;
+use write::WriteCounter;
+use write::error::WriteError;
 
 /// What can be told of a table before its glyphs are read.
 #[derive(Drop)]

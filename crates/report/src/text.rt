@@ -1,6 +1,6 @@
 //! A report as text.
 use crate::report::Report;
-use binary::error::ParseError;
+use read::error::ParseError;
 use std::fmt;
 use woff2::GlyfHeader;
 use woff2::Span;

@@ -13,8 +13,8 @@ use Rattle.std.specs.declared.option.Option.the-variants.{None, Some}
 use Rattle.std.specs.declared.result.Result.{Result}
 use Rattle.std.specs.declared.result.Result.the-variants.{Err}
 use Rattle.binary.specs.Bytes.{u16-at, u32-at}
-use Rattle.binary.specs.declared.error.ParseError.{ParseError}
-use Rattle.binary.specs.declared.error.ParseError.the-variants.{BadEof, BadValue}
+use Rattle.read.specs.declared.error.ParseError.{ParseError}
+use Rattle.read.specs.declared.error.ParseError.the-variants.{BadEof, BadValue}
 use Rattle.woff2.specs.declared.header.GlyfHeader.{GlyfHeader}
 use Rattle.woff2.specs.declared.header.Span.{Span}
 use Rattle.woff2.specs.declared.table.TransformedGlyphTable.{TransformedGlyphTable}

@@ -1,7 +1,7 @@
 //! The header of a transformed glyf table.
 ghost use Prim.Native.Nat.{_+_, _^_, _<_, _≤_};
 ghost use Rattle.binary.specs.Bytes.{u16-at, u32-at};
-ghost use Rattle.binary.specs.declared.error.ParseError.the-variants.{BadEof};
+ghost use Rattle.read.specs.declared.error.ParseError.the-variants.{BadEof};
 ghost use Rattle.std.specs.Orderings.{When};
 ghost use Rattle.std.specs.Results.{Cases};
 ghost use Rattle.std.specs.declared.option.Option.the-variants.{None, Some};
@@ -11,7 +11,7 @@ ghost use denote.Ref.{now};
 ghost use lib.Dec.{leb};
 ghost use lib.ListN.{length};
 ghost use mathlib.Core.Path.{_≡_};
-use binary::error::ParseError;
+use read::error::ParseError;
 
 /// How many glyphs there are, the format of loca, and the size of each stream in bytes.
 #[derive(Clone, Copy)]

@@ -1,15 +1,15 @@
 //! 255UInt16, a variable-length encoding of a 16-bit unsigned integer.
-ghost use Rattle.binary.specs.Reading.{Takes};
-ghost use Rattle.binary.specs.declared.error.ParseError.the-variants.{BadEof};
+ghost use Rattle.read.specs.Reading.{Takes};
+ghost use Rattle.read.specs.declared.error.ParseError.the-variants.{BadEof};
 ghost use Rattle.woff2.specs.Packed.{packed-said, packed-size, Three-forms-of-506};
 ghost use denote.Ref.{now};
 ghost use mathlib.Core.Path.{_≡_};
 use binary::U8;
+use binary::U8Field;
 use binary::U16Be;
-use binary::error::ParseError;
-use binary::read::ReadCtxt;
-use binary::read::U8Field;
-use binary::read::U16BeField;
+use binary::U16BeField;
+use read::ReadCtxt;
+use read::error::ParseError;
 
 /// 255UInt16: one to three bytes, by the first.
 pub enum PackedU16 {}

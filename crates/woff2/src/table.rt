@@ -6,8 +6,8 @@ ghost use lib.ListN.{length};
 ghost use mathlib.Core.Path.{_≡_};
 use crate::header::GlyfHeader;
 use crate::header::Span;
-use binary::error::ParseError;
-use binary::read::ReadScope;
+use read::ReadScope;
+use read::error::ParseError;
 
 /// The streams of a transformed glyf table.
 #[derive(Clone, Copy)]

@@ -7,8 +7,8 @@ use mathlib.Core.Path.{_≡_, refl, sym, ap, subst, _∙_}
 use native.Mathlib.Omega.{arith}
 use Rattle.std.proofs.shelf.Lists.{append-assoc, append-nil, length-append}
 use Rattle.std.specs.Joined.{joined}
-use Rattle.binary.specs.Arrays.{fields}
-use Rattle.binary_write.specs.Sinks.{Put}
+use Rattle.read.specs.Arrays.{fields}
+use Rattle.write.specs.Sinks.{Put}
 use Rattle.binary_write.proofs.Walks.{not-both, put-none, turn}
 use Rattle.binary_write.proofs.arrays.write_items.Given as given
 use Rattle.binary_write.proofs.arrays.write_items.Needs as need

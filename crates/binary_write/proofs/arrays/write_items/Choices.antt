@@ -2,8 +2,8 @@ use denote.Ref.{now}
 use mathlib.Core.List.{_++_}
 use mathlib.Core.Path.{_≡_}
 use Rattle.std.specs.Joined.{joined}
-use Rattle.binary.specs.Arrays.{fields}
-use Rattle.binary_write.specs.Sinks.{Put}
+use Rattle.read.specs.Arrays.{fields}
+use Rattle.write.specs.Sinks.{Put}
 use Rattle.binary_write.proofs.arrays.write_items.Given as given
 
 abbrev pub Inv-loop-value : given.InvT-loop-value

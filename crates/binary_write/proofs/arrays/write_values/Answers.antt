@@ -6,7 +6,7 @@ use mathlib.Core.Path.{_≡_, refl, ap, subst}
 use native.Mathlib.Omega.{arith}
 use Rattle.std.specs.Joined.{joined}
 use Rattle.std.proofs.shelf.Lists.{take-all}
-use Rattle.binary_write.specs.Sinks.{Put}
+use Rattle.write.specs.Sinks.{Put}
 use Rattle.binary_write.proofs.Walks.{not-both, turn-at}
 use Rattle.binary_write.proofs.arrays.write_values.Needs as need
 

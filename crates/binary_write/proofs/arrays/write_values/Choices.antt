@@ -1,6 +1,6 @@
 use lib.ListN.{take}
 use Rattle.std.specs.Joined.{joined}
-use Rattle.binary_write.specs.Sinks.{Put}
+use Rattle.write.specs.Sinks.{Put}
 use Rattle.binary_write.proofs.arrays.write_values.Given as given
 
 abbrev pub Inv-loop-value : given.InvT-loop-value

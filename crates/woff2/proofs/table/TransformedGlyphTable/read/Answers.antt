@@ -9,8 +9,8 @@ use Rattle.std.specs.Orderings.{When}
 use Rattle.std.specs.declared.option.Option.the-variants.{None}
 use Rattle.std.specs.declared.result.Result.{Result}
 use Rattle.std.specs.declared.result.Result.the-variants.{Ok, Err}
-use Rattle.binary.specs.declared.error.ParseError.{ParseError}
-use Rattle.binary.specs.declared.error.ParseError.the-variants.{BadEof}
+use Rattle.read.specs.declared.error.ParseError.{ParseError}
+use Rattle.read.specs.declared.error.ParseError.the-variants.{BadEof}
 use Rattle.woff2.specs.Transformed.{header-said, streams-fault, Streams}
 use Rattle.woff2.specs.declared.header.GlyfHeader.{GlyfHeader}
 use Rattle.woff2.specs.declared.table.TransformedGlyphTable.{TransformedGlyphTable}

@@ -1,7 +1,0 @@
--- The number of each refusal of a write.
-use Prim.Native.Nat.{ℕ}
-use Rattle.binary_write.specs.declared.error.WriteError.{WriteError}
-use Rattle.binary_write.specs.declared.error.WriteError.the-variants.{NoSpace}
-
-abbrev pub numberOf : WriteError → ℕ
-numberOf NoSpace = 7

@@ -1,0 +1,4 @@
+pub mod Arrays
+pub mod Bytes
+pub mod Errors
+pub mod Reading
