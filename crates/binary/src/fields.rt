@@ -11,6 +11,7 @@ use crate::LongHorMetric;
 use crate::U8;
 use crate::U16Be;
 use crate::U32Be;
+use crate::size;
 use read::ReadUnchecked;
 
 pub impl ReadUnchecked for U8 as U8Field {
@@ -25,11 +26,11 @@ pub impl ReadUnchecked for U8 as U8Field {
     ghost decode = { u8-said };
 
     fn size() -> usize {
-        1
+        size::U8
     }
 
     fn read_unchecked(bytes: &[u8]) -> u8 {
-        bytes[0]
+        u8::from_be_bytes([bytes[0]])
     }
 }
 
@@ -45,7 +46,7 @@ pub impl ReadUnchecked for I8 as I8Field {
     ghost decode = { i8-said };
 
     fn size() -> usize {
-        1
+        size::I8
     }
 
     fn read_unchecked(bytes: &[u8]) -> i8 {
@@ -65,11 +66,12 @@ pub impl ReadUnchecked for U16Be as U16BeField {
     ghost decode = { u16-said };
 
     fn size() -> usize {
-        2
+        size::U16
     }
 
     fn read_unchecked(bytes: &[u8]) -> u16 {
-        u16::from_be_bytes([bytes[0], bytes[1]])
+        let [hi, lo] = [bytes[0], bytes[1]];
+        u16::from_be_bytes([hi, lo])
     }
 }
 
@@ -85,11 +87,12 @@ pub impl ReadUnchecked for I16Be as I16BeField {
     ghost decode = { i16-said };
 
     fn size() -> usize {
-        2
+        size::I16
     }
 
     fn read_unchecked(bytes: &[u8]) -> i16 {
-        i16::from_be_bytes([bytes[0], bytes[1]])
+        let [hi, lo] = [bytes[0], bytes[1]];
+        i16::from_be_bytes([hi, lo])
     }
 }
 
@@ -105,7 +108,7 @@ pub impl ReadUnchecked for U32Be as U32BeField {
     ghost decode = { u32-said };
 
     fn size() -> usize {
-        4
+        size::U32
     }
 
     fn read_unchecked(bytes: &[u8]) -> u32 {
@@ -125,7 +128,7 @@ pub impl ReadUnchecked for F2Dot14 as F2Dot14Field {
     ghost decode = { f2dot14-said };
 
     fn size() -> usize {
-        2
+        size::F2DOT14
     }
 
     fn read_unchecked(bytes: &[u8]) -> F2Dot14 {
@@ -145,7 +148,7 @@ pub impl ReadUnchecked for BoundingBox as BoundingBoxField {
     ghost decode = { box-said };
 
     fn size() -> usize {
-        8
+        size::BOUNDING_BOX
     }
 
     fn read_unchecked(bytes: &[u8]) -> BoundingBox {
@@ -170,7 +173,7 @@ pub impl ReadUnchecked for LongHorMetric as LongHorMetricField {
     ghost decode = { metric-said };
 
     fn size() -> usize {
-        4
+        size::LONG_HOR_METRIC
     }
 
     fn read_unchecked(bytes: &[u8]) -> LongHorMetric {

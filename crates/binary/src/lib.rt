@@ -1,5 +1,6 @@
 //! The kinds of field in the tables of a font.
 mod fields;
+pub mod size;
 
 pub use fields::BoundingBoxField;
 pub use fields::F2Dot14Field;

@@ -34,25 +34,25 @@ pub impl WriteBinary for U8 as U8Write {
 
 pub impl WriteBinary for I8 as I8Write {
     fn write<C: WriteContext>(ctxt: &mut C, value: i8) -> Result<(), WriteError> {
-        ctxt.write_bytes(&value.to_be_bytes())
+        ctxt.write_bytes(&i8::to_be_bytes(value))
     }
 }
 
 pub impl WriteBinary for U16Be as U16BeWrite {
     fn write<C: WriteContext>(ctxt: &mut C, value: u16) -> Result<(), WriteError> {
-        ctxt.write_bytes(&value.to_be_bytes())
+        ctxt.write_bytes(&u16::to_be_bytes(value))
     }
 }
 
 pub impl WriteBinary for I16Be as I16BeWrite {
     fn write<C: WriteContext>(ctxt: &mut C, value: i16) -> Result<(), WriteError> {
-        ctxt.write_bytes(&value.to_be_bytes())
+        ctxt.write_bytes(&i16::to_be_bytes(value))
     }
 }
 
 pub impl WriteBinary for U32Be as U32BeWrite {
     fn write<C: WriteContext>(ctxt: &mut C, value: u32) -> Result<(), WriteError> {
-        ctxt.write_bytes(&value.to_be_bytes())
+        ctxt.write_bytes(&u32::to_be_bytes(value))
     }
 }
 

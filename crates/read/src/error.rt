@@ -19,7 +19,7 @@ pub impl From<ReadEof> for ParseError as ParseErrorFromReadEof {
     ghost converts = { λ _ r. r ≡ BadEof };
 
     fn from(_error: ReadEof) -> ParseError {
-        ParseError::BadEof
+        Self::BadEof
     }
 }
 

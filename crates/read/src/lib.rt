@@ -85,7 +85,7 @@ impl<'a> ReadScope<'a> {
     pub fn ctxt(&self) -> ReadCtxt<'a>
         ensures { λ r. ⌜ now (r .rest) ≡ now (now (self .entry) .bytes) ⌝ }
     {
-        ReadCtxt { rest: self.bytes }
+        ReadCtxt { rest: self.data() }
     }
 }
 
@@ -140,7 +140,7 @@ impl<'a> ReadCtxt<'a> {
                 bytes: scope.bytes,
                 kind: PhantomData,
             }),
-            Err(_) => Err(ParseError::BadEof),
+            Err(eof) => Err(ParseError::from(eof)),
         }
     }
 }

@@ -11,6 +11,9 @@ use binary::U16BeField;
 use read::ReadCtxt;
 use read::error::ParseError;
 
+// The first byte that is no number itself.
+const LOWEST_UCODE: u16 = 253;
+
 /// 255UInt16: one to three bytes, by the first.
 pub enum PackedU16 {}
 
@@ -22,8 +25,8 @@ impl PackedU16 {
         let mut ahead = *ctxt;
         let value = match ahead.read::<U8>()? {
             253 => ahead.read::<U16Be>()?,
-            254 => u16::from(ahead.read::<U8>()?) + 506,
-            255 => u16::from(ahead.read::<U8>()?) + 253,
+            254 => u16::from(ahead.read::<U8>()?) + LOWEST_UCODE * 2,
+            255 => u16::from(ahead.read::<U8>()?) + LOWEST_UCODE,
             code => u16::from(code),
         };
         *ctxt = ahead;
@@ -34,6 +37,6 @@ impl PackedU16 {
     pub fn three_forms_of_506() -> u16
         ensures { λ r. ⌜ r ≡ 506 ⌝ ∗ ⌜ Three-forms-of-506 ⌝ }
     {
-        506
+        2 * LOWEST_UCODE
     }
 }

@@ -70,10 +70,12 @@ pub impl WriteContext for WriteBuffer as BufferSink {
     }
 
     fn bytes_written(&self) -> usize {
-        self.written
+        let WriteBuffer { written, .. } = self;
+        *written
     }
 
     fn space(&self) -> usize {
-        self.space
+        let WriteBuffer { space, .. } = self;
+        *space
     }
 }

@@ -3,6 +3,7 @@ ghost use Prim.Native.Nat.{ℕ, _+_, _-_, _*_, _%_, _^_, _≤_};
 ghost use Rattle.write.specs.Checksums.{checksum};
 ghost use Rattle.write.specs.Meanings as means;
 ghost use Rattle.write.specs.Sinks.{New, Put};
+ghost use lib.Dec.{leb};
 ghost use lib.ListN.{length, replicate};
 ghost use mathlib.Core.List.{List, _++_};
 ghost use mathlib.Core.Path.{_≡_};
@@ -22,7 +23,16 @@ impl WriteChecksum {
     pub fn sum(&self) -> u32
         ensures { λ r. ⌜ r ≡ now (self .entry) .sum ⌝ }
     {
-        self.sum
+        let WriteChecksum { sum, .. } = self;
+        *sum
+    }
+
+    // Whether there is space for `n` bytes.
+    fn fits(&self, n: usize) -> bool
+        ensures { λ r. ⌜ r ≡ leb n (4294967295 - now (self .entry) .count) ⌝ ∗ ⌜ now (self .entry) .count ≤ 4294967295 ⌝ }
+    {
+        let left = u32::MAX - self.count;
+        n <= left as usize
     }
 
     fn add(&mut self, bytes: &[u8])
@@ -71,7 +81,7 @@ pub impl WriteContext for WriteChecksum as ChecksumSink {
     ghost meaning = { means.summed };
 
     fn write_bytes(&mut self, bytes: &[u8]) -> Result<(), WriteError> {
-        if bytes.len() > (u32::MAX - self.count) as usize {
+        if !self.fits(bytes.len()) {
             return Err(WriteError::NoSpace);
         }
         self.add(bytes);
@@ -79,7 +89,7 @@ pub impl WriteContext for WriteChecksum as ChecksumSink {
     }
 
     fn write_zeros(&mut self, n: usize) -> Result<(), WriteError> {
-        if n > (u32::MAX - self.count) as usize {
+        if !self.fits(n) {
             return Err(WriteError::NoSpace);
         }
         self.add_zeros(n);
