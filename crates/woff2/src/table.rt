@@ -33,6 +33,12 @@ impl<'a> TransformedGlyphTable<'a> {
     pub fn read(data: &'a [u8]) -> Result<TransformedGlyphTable<'a>, ParseError>
         ensures { λ r. ⌜ Taken-apart (now («data» .entry)) r ⌝ }
     {
+        TransformedGlyphTable::take_apart(data)
+    }
+
+    fn take_apart(data: &'a [u8]) -> Result<TransformedGlyphTable<'a>, ParseError>
+        ensures { λ r. ⌜ Taken-apart (now («data» .entry)) r ⌝ }
+    {
         let header = GlyfHeader::read(data)?;
         header.check_streams(data.len())?;
         Ok(TransformedGlyphTable::cut(header, data))

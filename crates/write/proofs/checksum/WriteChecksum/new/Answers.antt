@@ -1,6 +1,5 @@
 use mathlib.Core.Path.{refl}
 use Rattle.write.specs.Checksums.{checksum}
-use Rattle.write.proofs.Sums.{checksum-zeros}
 use Rattle.write.proofs.checksum.WriteChecksum.new.Needs as need
 
 pub returns : need.returns

@@ -15,7 +15,7 @@ use Rattle.woff2.specs.Transformed.{header-said, streams-fault, Streams}
 use Rattle.woff2.specs.declared.header.GlyfHeader.{GlyfHeader}
 use Rattle.woff2.specs.declared.table.TransformedGlyphTable.{TransformedGlyphTable}
 use Rattle.woff2.proofs.Streams.{no-fault}
-use Rattle.woff2.proofs.table.TransformedGlyphTable.read.Needs as need
+use Rattle.woff2.proofs.table.TransformedGlyphTable.take_apart.Needs as need
 
 pub cut-requires : need.cut-requires
 cut-requires c κs = no-fault (c .in-Continue-header .header) _ (c .in-Continue-check-streams .ensures tt)
