@@ -38,6 +38,9 @@ header-said bs =
 abbrev pub bitmap-size : ℕ → ℕ
 bitmap-size n = 4 * ((n + 31) / 32)
 
+abbrev pub Worked-bitmaps : Type 0
+Worked-bitmaps = (bitmap-size 32 ≡ 4) × (bitmap-size 33 ≡ 8) × (bitmap-size 65535 ≡ 8192)
+
 -- Where each stream begins: one behind the other, the first behind the header.
 abbrev pub contours-at : GlyfHeader → ℕ
 contours-at h = 36

@@ -6,7 +6,7 @@ ghost use Rattle.std.specs.Orderings.{When};
 ghost use Rattle.std.specs.Results.{Cases};
 ghost use Rattle.std.specs.declared.option.Option.the-variants.{None, Some};
 ghost use Rattle.std.specs.declared.result.Result.the-variants.{Ok, Err};
-ghost use Rattle.woff2.specs.Transformed.{bitmap-size, boxes-at, header-said, spans-of, streams-fault};
+ghost use Rattle.woff2.specs.Transformed.{bitmap-size, boxes-at, header-said, spans-of, streams-fault, Worked-bitmaps};
 ghost use denote.Ref.{now};
 ghost use lib.Dec.{leb};
 ghost use lib.ListN.{length};
@@ -57,7 +57,8 @@ impl GlyfHeader {
 
     /// The size of the bitmap with which the stream of boxes begins.
     pub fn bitmap_size(&self) -> usize
-        ensures { λ r. ⌜ r ≡ bitmap-size (now (self .entry) .«num_glyphs») ⌝ }
+        ensures size { λ r. ⌜ r ≡ bitmap-size (now (self .entry) .«num_glyphs») ⌝ }
+        ensures worked { λ _. ⌜ Worked-bitmaps ⌝ }
     {
         4 * ((usize::from(self.num_glyphs) + 31) / 32)
     }

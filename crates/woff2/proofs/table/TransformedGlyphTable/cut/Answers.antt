@@ -14,7 +14,7 @@ split-at-requires c κs =
     ap length (c .stream .ensures ∙ ap (stream-at bs 5) (c .spans .ensures))
     in
     let long : h .«bbox_size» ≡ length (cut (boxes-at h) (h .«bbox_size») bs) = simp (length-take, length-drop) (omega (arith, c .pre)) in
-    omega (arith, c .pre, c .bitmap-size .ensures)
+    omega (arith, c .pre, c .bitmap-size .ensures .size)
 
 pub returns : need.returns
 returns c =
@@ -31,12 +31,12 @@ returns c =
       bitmap =
           c .new-6 .ensures
           ∙ (c .split-at .ensures .front
-          ∙ (ap (λ n. take n (c .stream .result .now)) (c .bitmap-size .ensures)
+          ∙ (ap (λ n. take n (c .stream .result .now)) (c .bitmap-size .ensures .size)
           ∙ (ap (take (bitmap-size (h .«num_glyphs»))) boxes ∙ cut-front bs (boxes-at h) (h .«bbox_size») (bitmap-size (h .«num_glyphs»)) (c .pre .1))));
       boxes =
           c .new-7 .ensures
           ∙ (c .split-at .ensures .back
-          ∙ (ap (λ n. drop n (c .stream .result .now)) (c .bitmap-size .ensures)
+          ∙ (ap (λ n. drop n (c .stream .result .now)) (c .bitmap-size .ensures .size)
           ∙ (ap (drop (bitmap-size (h .«num_glyphs»))) boxes ∙ cut-back bs (boxes-at h) (h .«bbox_size») (bitmap-size (h .«num_glyphs»)) (c .pre .1))));
       instructions = c .new-8 .ensures ∙ (c .stream-7 .ensures ∙ ap (stream-at bs 6) (c .spans .ensures));
     }
