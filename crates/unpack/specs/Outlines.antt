@@ -1,0 +1,39 @@
+-- The outline of a simple glyph, as its streams say it.
+use Prim.Native.Nat.{ℕ, zero, suc, _+_, _-_, _%_, _≤_}
+use lib.Dec.{leb, ltb}
+use lib.IntN.{ℤ, negsuc, pos, _+ℤ_}
+use lib.ListN.{drop, length, take}
+use lib.Signed.{leZ}
+use mathlib.Core.Bool.{Bool, cond, false}
+use mathlib.Core.List.{List, [], _∷_, _++_}
+use Rattle.std.specs.declared.result.Result.{Result}
+use Rattle.std.specs.declared.result.Result.the-variants.{Err, Ok}
+use Rattle.read.specs.declared.error.ParseError.{ParseError}
+use Rattle.read.specs.declared.error.ParseError.the-variants.{BadEof, BadValue}
+use Rattle.woff2.specs.Packed.{packed-said, packed-size}
+
+abbrev pub both : Bool → Bool → Bool
+both a b = cond a b false
+
+-- The first `n` bytes of a stream, and what is left behind them.
+abbrev pub front : ℕ → List ℕ → Result (List ℕ × List ℕ) ParseError
+front n bs = cond (leb n (length bs)) (Ok (take n bs, drop n bs)) (Err BadEof)
+
+-- What comes of one answer after another.
+abbrev pub then : {A B E : Type 0} → Result A E → (A → Result B E) → Result B E
+then (Ok x) next = next x
+then (Err e) next = Err e
+
+abbrev pub packed : List ℕ → Result (ℕ × List ℕ) ParseError
+packed bs = then (front (packed-size bs) bs) (λ p. Ok (packed-said (p .0), p .1))
+
+-- The ends of `c` contours behind those in `es`, of which the last has `sum` points with all before it: a contour ends
+-- at the running sum of the sizes, less one. The sum is never 0 and never above 65535. The answer has the ends, the sum
+-- and what is left of the stream.
+abbrev pub ends-said : ℕ → List ℕ → ℕ → List ℕ → Result (List ℕ × ℕ × List ℕ) ParseError
+ends-said zero es sum bs = Ok (es, sum, bs)
+ends-said (suc c) es sum bs =
+    then (packed bs)
+    (λ p.
+    cond (both (ltb 0 (sum + p .0)) (leb (sum + p .0) 65535)) (ends-said c (es ++ (sum + p .0 - 1) ∷ []) (sum + p .0) (p .1))
+    (Err BadValue))

@@ -1,0 +1,2 @@
+//! A transformed glyf table becomes a forme.
+mod outline;
