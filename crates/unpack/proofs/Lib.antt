@@ -1,3 +1,4 @@
 pub mod Ends
 pub mod Lays
 pub mod Points
+pub mod Components

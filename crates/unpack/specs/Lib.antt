@@ -1,2 +1,3 @@
+pub mod Composites
 pub mod Laying
 pub mod Outlines

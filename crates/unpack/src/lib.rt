@@ -1,2 +1,3 @@
 //! A transformed glyf table becomes a forme.
 mod outline;
+mod parts;

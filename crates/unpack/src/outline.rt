@@ -19,7 +19,7 @@ use read::error::ParseError;
 use woff2::PackedU16;
 
 // Stores a value, where the list has a place for it.
-fn lay<T: Copy>(list: &mut [T], at: usize, value: T)
+pub(crate) fn lay<T: Copy>(list: &mut [T], at: usize, value: T)
     ensures { λ _. ⌜ now (list .exit) ≡ laid at (value ∷ []) (now (list .entry)) ⌝ }
 {
     if at < list.len() {
