@@ -1,3 +1,4 @@
 pub mod Composites
+pub mod Hints
 pub mod Laying
 pub mod Outlines

@@ -1,3 +1,4 @@
 //! A transformed glyf table becomes a forme.
+mod instructions;
 mod outline;
 mod parts;
