@@ -3,20 +3,20 @@ use Prim.Native.Nat.{ℕ, suc, _+_, _-_, _<_}
 use borrow.Author.Tests.{le-leb, lt-leb}
 use lib.Dec.{leb, ltb}
 use lib.ListN.{drop, length, take}
-use mathlib.Core.Bool.{Bool, true, false}
+use mathlib.Core.Bool.{true, false}
 use mathlib.Core.List.{List, [], _∷_, _++_}
 use mathlib.Core.Path.{_≡_, refl, sym, ap, _∙_}
 use native.Mathlib.Omega.{arith}
-use Rattle.std.specs.Orderings.{When}
-use Rattle.std.specs.Results.{Cases}
 use Rattle.std.specs.declared.result.Result.{Result}
 use Rattle.std.specs.declared.result.Result.the-variants.{Err, Ok}
+use Rattle.lut.specs.Triplets.{both}
 use Rattle.read.proofs.Taking.{missed, took}
 use Rattle.read.specs.Reading.{Takes}
 use Rattle.read.specs.declared.error.ParseError.{ParseError}
 use Rattle.read.specs.declared.error.ParseError.the-variants.{BadEof, BadValue}
 use Rattle.woff2.specs.Packed.{packed-said, packed-size}
-use Rattle.unpack.specs.Outlines.{both, ends-said, front, packed, then}
+use Rattle.unpack.specs.Outlines.{ends-said, packed}
+use Rattle.unpack.proofs.Judged.{failed, Judges, passed}
 
 abbrev Says : ℕ → List ℕ → Type 0
 Says v bs = v ≡ packed-said bs
@@ -43,21 +43,8 @@ module _ (k sum v : ℕ) (es bs rest : List ℕ) (read : packed bs ≡ Ok (v, re
 pub ends-cut : (k sum : ℕ) (es bs : List ℕ) (d : ParseError) → packed bs ≡ Err d → ends-said (suc k) es sum bs ≡ Err d
 ends-cut k sum es bs d e = rw e refl
 
--- What holds of an answer that is refused.
-pub when-refused : {A : Type 0} (s : Result A ParseError) (P : A → Type 0) (Q : ParseError → Type 0) (d : ParseError) → s ≡ Err d → Q d → Cases s P Q
-when-refused s P Q d e q = rw e q
-
--- A sum that was accepted, and one that was refused.
-summed : (b : Bool) (x y : ℕ) → When b (_≡_ {A = Result ℕ ParseError} (Ok x) (Ok y)) (_≡_ {A = Result ℕ ParseError} (Ok x) (Err BadValue)) → (b ≡ true) × (x ≡ y)
-summed true x y h = (refl, cc)
-summed false x y h = let z : _≡_ {A = ℕ} 0 1 = cc in absurd (omega arith)
-
-unsummed : (b : Bool) (d : ParseError) (y : ℕ) → When b (_≡_ {A = Result ℕ ParseError} (Err d) (Ok y)) (_≡_ {A = Result ℕ ParseError} (Err d) (Err BadValue)) → (b ≡ false) × (d ≡ BadValue)
-unsummed true d y h = let z : _≡_ {A = ℕ} 0 1 = cc in absurd (omega arith)
-unsummed false d y h = (refl, cc)
-
 abbrev Sums : ℕ → ℕ → Result ℕ ParseError → Type 0
-Sums points v r = When (both (ltb 0 (points + v)) (leb (points + v) 65535)) (r ≡ Ok (points + v)) (r ≡ Err BadValue)
+Sums points v r = Judges (both (ltb 0 (points + v)) (leb (points + v) 65535)) (points + v) r
 
 -- A turn of the loop at the contour `i` of `c`.
 module _ (c i points : ℕ) (es bs : List ℕ) (low : i < c) where
@@ -66,14 +53,14 @@ module _ (c i points : ℕ) (es bs : List ℕ) (low : i < c) where
 
   pub turned : (v sum : ℕ) (rest : List ℕ) → packed bs ≡ Ok (v, rest) → Sums points v (Ok sum) → ends-said (c - i) es points bs ≡ ends-said (c - (i + 1)) (es ++ (sum - 1) ∷ []) sum rest
   turned v sum rest p s =
-      let e = summed (both (ltb 0 (points + v)) (leb (points + v) 65535)) sum (points + v) s in
+      let e = passed (both (ltb 0 (points + v)) (leb (points + v) 65535)) (points + v) sum s in
       one-less
       ∙ (ends-next (c - (i + 1)) points v es bs rest p (e .0)
       ∙ ap (λ (n : ℕ). ends-said (c - (i + 1)) (es ++ (n - 1) ∷ []) n rest) (sym (e .1)))
 
   pub refused : (v : ℕ) (rest : List ℕ) (d : ParseError) → packed bs ≡ Ok (v, rest) → Sums points v (Err d) → ends-said (c - i) es points bs ≡ Err d
   refused v rest d p s =
-      let e = unsummed (both (ltb 0 (points + v)) (leb (points + v) 65535)) d (points + v) s in
+      let e = failed (both (ltb 0 (points + v)) (leb (points + v) 65535)) (points + v) d s in
       one-less ∙ (ends-bad (c - (i + 1)) points v es bs rest p (e .0) ∙ ap (λ (x : ParseError). Err x) (sym (e .1)))
 
   pub ended : (d : ParseError) → packed bs ≡ Err d → ends-said (c - i) es points bs ≡ Err d

@@ -1,4 +1,5 @@
+pub mod Components
 pub mod Ends
+pub mod Judged
 pub mod Lays
 pub mod Points
-pub mod Components

@@ -13,10 +13,11 @@ use Rattle.std.specs.Results.{Cases}
 use Rattle.std.specs.declared.result.Result.{Result}
 use Rattle.std.specs.declared.result.Result.the-variants.{Err, Ok}
 use Rattle.glyph.specs.declared.lists.Point.{Point}
-use Rattle.lut.specs.Triplets.{bytes-in, group-of, steps-said, Triplet}
+use Rattle.lut.specs.Triplets.{both, bytes-in, group-of, steps-said, Triplet}
 use Rattle.read.specs.declared.error.ParseError.{ParseError}
 use Rattle.read.specs.declared.error.ParseError.the-variants.{BadEof, BadValue}
-use Rattle.unpack.specs.Outlines.{both, placed, point, point-said, points-said, steps, then}
+use Rattle.unpack.proofs.Judged.{failed, Judges, passed}
+use Rattle.unpack.specs.Outlines.{placed, point, point-said, points-said, steps, then}
 
 -- A pair of steps that was read, or refused, is the one that the bytes say.
 stepped : (b : Bool) (r : ℕ) (bs rest front-bytes back : List ℕ) (result : Result (ℤ × ℤ) ParseError) → When b ((result ≡ steps-said r front-bytes) × (rest ≡ back)) ((result ≡ Err BadEof) × (rest ≡ bs)) → (q : ℤ × ℤ) → result ≡ Ok q → then {A = List ℕ × List ℕ} {B = (ℤ × ℤ) × List ℕ} (cond b (Ok (front-bytes, back)) (Err BadEof)) (λ p. then (steps-said r (p .0)) (λ s. Ok (s, p .1))) ≡ Ok (q, rest)
@@ -64,20 +65,8 @@ pub rejected : {A : Type 0} (s : Result (A × List ℕ) ParseError) (rest : List
 rejected (Ok p) rest d h = let f = h .0 in let z : _≡_ {A = ℕ} 0 1 = cc in absurd (omega arith)
 rejected (Err e) rest d h = let f : d ≡ e = cc in ap (λ (x : ParseError). Err x) (sym f)
 
-pub when-accepted : {A : Type 0} (s : Result A ParseError) (P : A → Type 0) (Q : ParseError → Type 0) (x : A) → s ≡ Ok x → P x → Cases s P Q
-when-accepted s P Q x e p = rw e p
-
--- A position that was accepted, and one that was refused.
 abbrev Moves : ℤ → Result ℤ ParseError → Type 0
-Moves z r = When (placed z) (r ≡ Ok z) (r ≡ Err BadValue)
-
-stood : (b : Bool) (z x : ℤ) → When b (_≡_ {A = Result ℤ ParseError} (Ok x) (Ok z)) (_≡_ {A = Result ℤ ParseError} (Ok x) (Err BadValue)) → (b ≡ true) × (x ≡ z)
-stood true z x h = (refl, cc)
-stood false z x h = let y : _≡_ {A = ℕ} 0 1 = cc in absurd (omega arith)
-
-fell : (b : Bool) (z : ℤ) (d : ParseError) → When b (_≡_ {A = Result ℤ ParseError} (Err d) (Ok z)) (_≡_ {A = Result ℤ ParseError} (Err d) (Err BadValue)) → (b ≡ false) × (d ≡ BadValue)
-fell true z d h = let y : _≡_ {A = ℕ} 0 1 = cc in absurd (omega arith)
-fell false z d h = (refl, cc)
+Moves z r = Judges (placed z) z r
 
 both-false : (a : Bool) → both a false ≡ false
 both-false true = refl
@@ -86,20 +75,20 @@ both-false false = refl
 module _ (last : Point) (f : ℕ) (bs rest : List ℕ) (q : ℤ × ℤ) (read : steps (f % 128) bs ≡ Ok (q, rest)) where
   pub reached : (x y : ℤ) → Moves (last .x +ℤ q .0) (Ok x) → Moves (last .y +ℤ q .1) (Ok y) → point-said last f bs ≡ Ok (point x y f, rest)
   reached x y a b =
-      let ex = stood (placed (last .x +ℤ q .0)) (last .x +ℤ q .0) x a in
-      let ey = stood (placed (last .y +ℤ q .1)) (last .y +ℤ q .1) y b in
+      let ex = passed (placed (last .x +ℤ q .0)) (last .x +ℤ q .0) x a in
+      let ey = passed (placed (last .y +ℤ q .1)) (last .y +ℤ q .1) y b in
       let said : point-said last f bs ≡ Ok (point (last .x +ℤ q .0) (last .y +ℤ q .1) f, rest) = rw (read, ex .0, ey .0) refl in
       said
       ∙ (ap (λ (z : ℤ). Ok (point z (last .y +ℤ q .1) f, rest)) (sym (ex .1)) ∙ ap (λ (z : ℤ). Ok (point x z f, rest)) (sym (ey .1)))
 
   pub past-x : (d : ParseError) → Moves (last .x +ℤ q .0) (Err d) → point-said last f bs ≡ Err d
   past-x d a =
-      let ex = fell (placed (last .x +ℤ q .0)) (last .x +ℤ q .0) d a in
+      let ex = failed (placed (last .x +ℤ q .0)) (last .x +ℤ q .0) d a in
       let said : point-said last f bs ≡ Err BadValue = rw (read, ex .0) refl in
       said ∙ ap (λ (e : ParseError). Err e) (sym (ex .1))
 
   pub past-y : (d : ParseError) → Moves (last .y +ℤ q .1) (Err d) → point-said last f bs ≡ Err d
   past-y d b =
-      let ey = fell (placed (last .y +ℤ q .1)) (last .y +ℤ q .1) d b in
+      let ey = failed (placed (last .y +ℤ q .1)) (last .y +ℤ q .1) d b in
       let said : point-said last f bs ≡ Err BadValue = rw (read, ey .0, both-false (placed (last .x +ℤ q .0))) refl in
       said ∙ ap (λ (e : ParseError). Err e) (sym (ey .1))

@@ -4,18 +4,15 @@ use lib.Dec.{leb, ltb}
 use lib.IntN.{ℤ, negsuc, pos, _+ℤ_}
 use lib.ListN.{drop, length, take}
 use lib.Signed.{leZ}
-use mathlib.Core.Bool.{Bool, cond, false, true}
+use mathlib.Core.Bool.{Bool, cond, true}
 use mathlib.Core.List.{List, [], _∷_, _++_}
 use Rattle.std.specs.declared.result.Result.{Result}
 use Rattle.std.specs.declared.result.Result.the-variants.{Err, Ok}
 use Rattle.read.specs.declared.error.ParseError.{ParseError}
 use Rattle.read.specs.declared.error.ParseError.the-variants.{BadEof, BadValue}
 use Rattle.glyph.specs.declared.lists.Point.{Point}
-use Rattle.lut.specs.Triplets.{bytes-in, group-of, steps-said}
+use Rattle.lut.specs.Triplets.{both, bytes-in, group-of, steps-said}
 use Rattle.woff2.specs.Packed.{packed-said, packed-size}
-
-abbrev pub both : Bool → Bool → Bool
-both a b = cond a b false
 
 -- The first `n` bytes of a stream, and what is left behind them.
 abbrev pub front : ℕ → List ℕ → Result (List ℕ × List ℕ) ParseError

@@ -1,11 +1,12 @@
 //! The outline of a simple glyph.
 ghost use Prim.Native.Nat.{_+_, _≤_};
+ghost use Rattle.lut.specs.Triplets.{both};
 ghost use Rattle.read.specs.declared.error.ParseError.the-variants.{BadValue};
 ghost use Rattle.std.specs.Orderings.{When};
 ghost use Rattle.std.specs.Results.{Cases};
 ghost use Rattle.std.specs.declared.result.Result.the-variants.{Err, Ok};
 ghost use Rattle.unpack.specs.Laying.{laid};
-ghost use Rattle.unpack.specs.Outlines.{both, ends-said, origin, placed, point-said, points-said};
+ghost use Rattle.unpack.specs.Outlines.{ends-said, origin, placed, point-said, points-said};
 ghost use denote.Ref.{now};
 ghost use lib.Dec.{leb, ltb};
 ghost use lib.IntN.{_+ℤ_};

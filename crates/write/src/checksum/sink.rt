@@ -21,7 +21,8 @@ impl WriteChecksum {
 
     /// The sum of what was written, as big-endian words of 32 bits with zeros behind the last.
     pub fn sum(&self) -> u32
-        ensures { λ r. ⌜ r ≡ now (self .entry) .sum ⌝ }
+        ensures value { λ r. ⌜ r ≡ now (self .entry) .sum ⌝ }
+        ensures sums { λ r. ⌜ ((xs : List ℕ) → means.summed .stands (now (self .entry)) xs → checksum xs ≡ r) ⌝ }
     {
         let WriteChecksum { sum, .. } = self;
         *sum

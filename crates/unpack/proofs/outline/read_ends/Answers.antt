@@ -7,8 +7,9 @@ use Rattle.std.proofs.shelf.Lists.{length-push}
 use Rattle.std.proofs.shelf.Results.{err-from-errBy}
 use Rattle.std.specs.declared.result.Result.the-variants.{Err}
 use Rattle.unpack.specs.Laying.{laid}
-use Rattle.unpack.proofs.Ends.{ended, packed-missed, packed-took, refused, turned, when-refused}
+use Rattle.unpack.proofs.Ends.{ended, packed-missed, packed-took, refused, turned}
 use Rattle.unpack.proofs.Lays.{laid-more}
+use Rattle.unpack.proofs.Judged.{when-refused}
 use Rattle.unpack.proofs.outline.read_ends.Needs as need
 
 pub loop-i-again : need.loop-i-again

@@ -7,8 +7,8 @@ use mir.Val.{SFits}
 use Rattle.std.proofs.shelf.Results.{err-from-errBy}
 use Rattle.std.proofs.shelf.Signed.{toZ-ofZ}
 use Rattle.std.specs.declared.result.Result.the-variants.{Err}
-use Rattle.unpack.proofs.Ends.{when-refused}
-use Rattle.unpack.proofs.Points.{past-x, past-y, reached, steps-took, when-accepted}
+use Rattle.unpack.proofs.Points.{past-x, past-y, reached, steps-took}
+use Rattle.unpack.proofs.Judged.{when-accepted, when-refused}
 use Rattle.unpack.proofs.outline.read_point.Needs as need
 
 pub returns-in-Break-x : need.returns-in-Break-x

@@ -8,9 +8,9 @@ use Rattle.std.proofs.shelf.Results.{err-from-errBy}
 use Rattle.std.specs.declared.result.Result.the-variants.{Err}
 use Rattle.unpack.specs.Laying.{laid}
 use Rattle.unpack.specs.Outlines.{point-said, points-said}
-use Rattle.unpack.proofs.Ends.{when-refused}
 use Rattle.unpack.proofs.Lays.{laid-more}
-use Rattle.unpack.proofs.Points.{accepted, ended, rejected, turned, when-accepted}
+use Rattle.unpack.proofs.Points.{accepted, ended, rejected, turned}
+use Rattle.unpack.proofs.Judged.{when-accepted, when-refused}
 use Rattle.unpack.proofs.outline.read_points.Needs as need
 
 pub loop-flag-again : need.loop-flag-again

@@ -10,9 +10,8 @@ use Rattle.std.specs.declared.result.Result.the-variants.{Err, Ok}
 use Rattle.unpack.specs.Composites.{components-said}
 use Rattle.unpack.specs.Laying.{laid}
 use Rattle.unpack.proofs.Components.{cut, last, more, part-missed, part-took}
-use Rattle.unpack.proofs.Ends.{when-refused}
 use Rattle.unpack.proofs.Lays.{laid-more}
-use Rattle.unpack.proofs.Points.{when-accepted}
+use Rattle.unpack.proofs.Judged.{when-accepted, when-refused}
 use Rattle.unpack.proofs.parts.read_components.Needs as need
 
 pub loop-component-holds : need.loop-component-holds
