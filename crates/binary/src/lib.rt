@@ -1,4 +1,6 @@
 //! The kinds of field in the tables of a font.
+#![tactic(auto)]
+
 mod fields;
 pub mod size;
 

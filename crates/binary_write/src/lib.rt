@@ -1,4 +1,6 @@
 //! Fields, arrays and slices of them written to any sink.
+#![tactic(auto)]
+
 mod arrays;
 mod fields;
 

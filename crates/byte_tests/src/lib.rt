@@ -1,4 +1,6 @@
 //! The byte layer at its limits: nothing to read, one byte short, exactly full, one over.
+#![tactic(auto)]
+
 #[cfg(test)]
 mod bits;
 #[cfg(test)]

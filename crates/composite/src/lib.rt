@@ -1,4 +1,6 @@
 //! Components of composite glyphs, as both forms of the glyf table hold them.
+#![tactic(auto)]
+
 ghost use Rattle.std.specs.Prelude.{◌≡◌, ◌+◌, ◌≤◌, length, negsuc};
 ghost use Rattle.composite.specs.Components.{argument_said, argument_size, ByteFc, component_said, component_size, f2dot14_at, flags_said, Reads, scale_said, scale_size};
 ghost use Rattle.glyph.specs.declared.component.CompositeGlyphArgument.TheVariants.{I8 as I8Argument};

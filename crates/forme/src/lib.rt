@@ -1,4 +1,6 @@
 //! The forme, which says what the caller's lists hold, and the calls on it.
+#![tactic(auto)]
+
 mod forme;
 mod unpack;
 mod view;

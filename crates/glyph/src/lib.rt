@@ -1,4 +1,6 @@
 //! Glyphs as values, and the lists that hold them.
+#![tactic(auto)]
+
 mod bounds;
 mod component;
 mod laying;

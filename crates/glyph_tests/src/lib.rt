@@ -1,4 +1,6 @@
 //! Tests of the parts that unpack is made of, at their limits.
+#![tactic(auto)]
+
 #[cfg(test)]
 mod boxes;
 #[cfg(test)]

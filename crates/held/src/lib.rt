@@ -1,4 +1,6 @@
 //! Whether lists hold glyphs.
+#![tactic(auto)]
+
 mod components;
 mod edges;
 mod metrics;

@@ -1,4 +1,6 @@
 //! Steps from point to point, as a flag and the bytes behind it say them.
+#![tactic(auto)]
+
 ghost use Rattle.std.specs.Prelude.{◌≡◌, ◌%◌, ◌<◌, T, length};
 ghost use Rattle.lut.specs.Rows.{row_of};
 ghost use Rattle.lut.specs.Tested.{ruled};

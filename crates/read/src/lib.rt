@@ -1,4 +1,6 @@
 //! Reading of binary data: a borrowed cursor over bytes, fields of a fixed size, and arrays of them.
+#![tactic(auto)]
+
 ghost use Rattle.std.specs.Prelude.{◌≡◌, ℕ, ◌*◌, ◌≤◌, List, length, Ok, Err, MatchBool, nat_le};
 ghost use Rattle.read.specs.Bytes.{AllBytes};
 ghost use Rattle.read.specs.Reading.{Takes};

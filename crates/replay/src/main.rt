@@ -1,4 +1,6 @@
 //! Replays commands on a forme: reads one from each line of standard input, and writes the answers to standard output.
+#![tactic(auto)]
+
 mod answer;
 mod command;
 mod mistake;

@@ -1,4 +1,6 @@
 //! What `unwoff2` says of a transformed glyf table.
+#![tactic(auto)]
+
 mod face;
 mod refusal;
 mod report;

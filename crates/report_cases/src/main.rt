@@ -1,4 +1,6 @@
 //! Reports on a small table, cut short at every length, and on headers that contradict themselves; refusals in words.
+#![tactic(auto)]
+
 use glyph::{Cause, NO_GLYPH, Refusal};
 use read::error::ParseError;
 use report::{RefusalText, Report};

@@ -1,4 +1,6 @@
 //! Glyphs and bytes as text.
+#![tactic(auto)]
+
 mod component;
 mod glyph;
 mod hex;

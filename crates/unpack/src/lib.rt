@@ -1,4 +1,6 @@
 //! A transformed glyf table becomes glyphs in the caller's lists.
+#![tactic(auto)]
+
 mod glyphs;
 mod instructions;
 mod outline;

@@ -1,4 +1,6 @@
 //! Reports on a transformed glyf table, and lists its glyphs.
+#![tactic(auto)]
+
 use anyhow::anyhow;
 use forme::Forme;
 use report::{Face, RefusalText, Report};

@@ -1,4 +1,6 @@
 //! Reading of the WOFF2 font format: the transformed glyf table.
+#![tactic(auto)]
+
 mod bits;
 mod header;
 mod packed;

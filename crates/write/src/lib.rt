@@ -1,4 +1,6 @@
 //! Writing of binary data to sinks.
+#![tactic(auto)]
+
 ghost use Rattle.std.specs.Prelude.{◌≡◌, ℕ, List, length};
 ghost use Rattle.write.specs.Sinks.{Meaning, Puts, Zeros};
 

@@ -15,16 +15,16 @@ all g bs = fields g.T.ReadUnchecked.size g.T.ReadUnchecked.decode bs
 shorter : {A : Type 0} (whole vs rest tail : List A) (v : A) → whole ≡ vs ++ rest → rest ≡ v ∷ tail → length vs < length whole
 shorter whole vs rest tail v e f = omega (arith, length-append vs rest, ap length e, ap length f)
 
-pub loop_value_init : goal.loop_value_init
-loop_value_init g c = (
+pub loop-value-init : goal.loop-value-init
+loop-value-init g c = (
   tt,
   tt,
   put_none g.C.WriteContext.meaning c.args.ctxt.now,
   ap (all g) (sym (ap (λ i. i.bytes.now) c.into-iter-value-iterator.ensures.into-iter-gives ∙ c.iter-value-items.ensures)),
 )
 
-pub loop_value_preserved : goal.loop_value_preserved
-loop_value_preserved g c =
+pub loop-value-preserved : goal.loop-value-preserved
+loop-value-preserved g c =
     let done = c.loop-value.invariant in
     let step = c.in-Some.ensures.steps in
     let got =
@@ -38,8 +38,8 @@ loop_value_preserved g c =
       done.3 ∙ (ap (λ vs. c.loop-value.yielded ++ vs) step ∙ sym (append_assoc c.loop-value.yielded (c.in-Some.value ∷ []) _)),
     )
 
-pub returns_in_err_write : goal.returns_in_err_write
-returns_in_err_write g c =
+pub returns-in_err-write : goal.returns-in_err-write
+returns-in_err-write g c =
     let done = c.loop-value.invariant in
     let ok =
     (turn g.C.WriteContext.meaning g.T.ReadUnchecked.encode g.T.ReadUnchecked.size g.met.T.ReadUnchecked.exact

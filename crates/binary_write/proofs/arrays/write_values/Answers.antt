@@ -6,14 +6,14 @@ use Rattle.write.specs.Sinks.{Put}
 use Rattle.binary_write.proofs.Walks.{not_both, turn_at}
 use Rattle.binary_write.proofs.arrays.write_values.Goals as goal
 
-pub loop_value_preserved : goal.loop_value_preserved
-loop_value_preserved g c =
+pub loop-value-preserved : goal.loop-value-preserved
+loop-value-preserved g c =
     (turn_at g.C.WriteContext.meaning g.T.ReadUnchecked.encode g.T.ReadUnchecked.size g.met.T.ReadUnchecked.exact
     c.args.values.now c.loop-value.value-index c.value-item.result _ _ _ _
     c.requires c.loop-value-test.true c.value-item.is c.loop-value.invariant c.write.ensures).1
 
-pub returns_in_err_write : goal.returns_in_err_write
-returns_in_err_write g c =
+pub returns-in_err-write : goal.returns-in_err-write
+returns-in_err-write g c =
     let ok =
     (turn_at g.C.WriteContext.meaning g.T.ReadUnchecked.encode g.T.ReadUnchecked.size g.met.T.ReadUnchecked.exact
     c.args.values.now c.loop-value.value-index c.value-item.result _ _ _ _

@@ -4,8 +4,8 @@ use Rattle.forme.specs.Formes.{unfitted}
 use Rattle.forme.proofs.Unpacking.{accepts_the_spelled, refuses, unpacks}
 use Rattle.forme.proofs.unpack.unpack_into.Goals as goal
 
-pub returns_in_err_glyphs : goal.returns_in_err_glyphs
-returns_in_err_glyphs c =
+pub returns-in_err-glyphs : goal.returns-in_err-glyphs
+returns-in_err-glyphs c =
     let f = c.args.forme.now in
     let bs = c.args.table.now in
     let ls = c.args.lists.now in

@@ -9,12 +9,12 @@ use Rattle.glyph.proofs.bounds.around.Goals as goal
 abbrev point_0 : Point
 point_0 = record { x = pos 0; y = pos 0; on_curve = false }
 
-pub loop_point_preserved : goal.loop_point_preserved
-loop_point_preserved c =
+pub loop-point-preserved : goal.loop-point-preserved
+loop-point-preserved c =
     let points = c.args.points.now in
     let i = c.loop-point.point-index in
     let low : i < length points = omega arith in
-    c.grow_bbox.ensures
+    c.grow-bbox.ensures
     ∙ (ap (λ b. grown b (get_or points i (point_0))) c.loop-point.invariant ∙ sym (fold_more grown _ points i (point_0) low))
 
 pub returns : goal.returns

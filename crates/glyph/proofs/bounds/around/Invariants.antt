@@ -2,5 +2,5 @@ use Rattle.std.proofs.Common.{◌≡◌, take, fold}
 use Rattle.glyph.specs.Bounds.{grown}
 use Rattle.glyph.proofs.bounds.around.Given as goal
 
-abbrev pub invariant_loop_point : goal.invariant_loop_point
-invariant_loop_point l = l.bbox ≡ fold grown l.initial.bbox (take l.point-index l.points)
+abbrev pub invariant-loop-point : goal.invariant-loop-point
+invariant-loop-point l = l.bbox ≡ fold grown l.initial.bbox (take l.point-index l.points)

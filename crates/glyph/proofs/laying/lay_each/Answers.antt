@@ -4,8 +4,8 @@ use Rattle.glyph.specs.Laying.{laid}
 use Rattle.glyph.proofs.Lays.{laid_append, laid_more, laid_past}
 use Rattle.glyph.proofs.laying.lay_each.Goals as goal
 
-pub returns_then_place_list : goal.returns_then_place_list
-returns_then_place_list g c =
+pub returns-then-place-list : goal.returns-then-place-list
+returns-then-place-list g c =
     let values = c.args.values.now in
     let i = c.loop-value.value-index in
     let inv = c.loop-value.invariant in
@@ -18,8 +18,8 @@ returns_then_place_list g c =
     ∙ (sym (laid_append c.args.at c.loop-value.place (take i values) (drop i values) c.args.list.now (omega (arith, inv.0)))
     ∙ ap (λ xs. laid c.args.at xs c.args.list.now) (take-append-drop i values)))
 
-pub loop_value_preserved : goal.loop_value_preserved
-loop_value_preserved g c =
+pub loop-value-preserved : goal.loop-value-preserved
+loop-value-preserved g c =
     let values = c.args.values.now in
     let i = c.loop-value.value-index in
     let x = c.value-item.result in

@@ -13,17 +13,17 @@ nothing = record { flags = 0; glyph_index = 0; argument1 = U8 0; argument2 = U8 
 abbrev behind : Component → List Component → Bool
 behind m cs = chained_on (has m.flags 0x0020) cs
 
-pub returns_then_not_more : goal.returns_then_not_more
-returns_then_not_more c =
+pub returns-then-not-more : goal.returns-then-not-more
+returns-then-not-more c =
     let more = c.loop-component.more in
     fails (chained_on more) (λ _. more) behind (λ _ _. refl) c.args.components.now c.loop-component.component-index nothing c.loop-component-test.true _ c.loop-component.invariant (sym c.if-not-more.true)
 
-pub loop_component_preserved : goal.loop_component_preserved
-loop_component_preserved c =
+pub loop-component-preserved : goal.loop-component-preserved
+loop-component-preserved c =
     let more = c.loop-component.more in
     let i = c.loop-component.component-index in
     goes_on (chained_on more) (λ _. more) behind (λ _ _. refl) c.args.components.now i nothing c.loop-component-test.true _ c.loop-component.invariant (sym c.if-not-more.false)
-    ∙ ap (λ (b : Bool). chained_on b (drop (i + 1) c.args.components.now)) (sym c.is_set_more.ensures)
+    ∙ ap (λ (b : Bool). chained_on b (drop (i + 1) c.args.components.now)) (sym c.is_set-more.ensures)
 
 pub returns : goal.returns
 returns c =

@@ -4,13 +4,13 @@ use Rattle.held.specs.Tests.{each_sound}
 use Rattle.held.proofs.Turns.{ends, fails, goes_on}
 use Rattle.held.proofs.components.each_sound.Goals as goal
 
-pub returns_then_not_component_sound : goal.returns_then_not_component_sound
-returns_then_not_component_sound c =
-    fails each_sound component_sound (λ _. each_sound) (λ _ _. refl) c.args.components.now c.loop-component.component-index _ c.loop-component-test.true _ c.loop-component.invariant c.if-not-component-sound.ensures
+pub returns-then-not-component_sound : goal.returns-then-not-component_sound
+returns-then-not-component_sound c =
+    fails each_sound component_sound (λ _. each_sound) (λ _ _. refl) c.args.components.now c.loop-component.component-index _ c.loop-component-test.true _ c.loop-component.invariant c.if-not-component_sound.ensures
 
-pub loop_component_preserved : goal.loop_component_preserved
-loop_component_preserved c =
-    goes_on each_sound component_sound (λ _. each_sound) (λ _ _. refl) c.args.components.now c.loop-component.component-index _ c.loop-component-test.true _ c.loop-component.invariant c.if-not-component-sound.ensures
+pub loop-component-preserved : goal.loop-component-preserved
+loop-component-preserved c =
+    goes_on each_sound component_sound (λ _. each_sound) (λ _ _. refl) c.args.components.now c.loop-component.component-index _ c.loop-component-test.true _ c.loop-component.invariant c.if-not-component_sound.ensures
 
 pub returns : goal.returns
 returns c =

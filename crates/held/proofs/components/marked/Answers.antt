@@ -4,13 +4,13 @@ use Rattle.composite.specs.Components.{has}
 use Rattle.held.proofs.Turns.{ends, found, not_found}
 use Rattle.held.proofs.components.marked.Goals as goal
 
-pub returns_then_is_set : goal.returns_then_is_set
-returns_then_is_set c =
-    found marked (λ m. has m.flags 0x0100) (λ _ _. refl) c.args.components.now c.loop-component.component-index _ c.loop-component-test.true _ c.loop-component.invariant c.if-is-set.ensures
+pub returns-then-is_set : goal.returns-then-is_set
+returns-then-is_set c =
+    found marked (λ m. has m.flags 0x0100) (λ _ _. refl) c.args.components.now c.loop-component.component-index _ c.loop-component-test.true _ c.loop-component.invariant c.if-is_set.ensures
 
-pub loop_component_preserved : goal.loop_component_preserved
-loop_component_preserved c =
-    not_found marked (λ m. has m.flags 0x0100) (λ _ _. refl) c.args.components.now c.loop-component.component-index _ c.loop-component-test.true _ c.loop-component.invariant c.if-is-set.ensures
+pub loop-component-preserved : goal.loop-component-preserved
+loop-component-preserved c =
+    not_found marked (λ m. has m.flags 0x0100) (λ _ _. refl) c.args.components.now c.loop-component.component-index _ c.loop-component-test.true _ c.loop-component.invariant c.if-is_set.ensures
 
 pub returns : goal.returns
 returns c =

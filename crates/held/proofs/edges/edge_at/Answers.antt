@@ -4,8 +4,8 @@ use Rattle.std.proofs.lemmas.Int.{to_z-of_z}
 use Rattle.held.specs.Edges.{edge_of}
 use Rattle.held.proofs.edges.edge_at.Goals as goal
 
-pub returns_then_index_len : goal.returns_then_index_len
-returns_then_index_len c =
+pub returns-then-index-len : goal.returns-then-index-len
+returns-then-index-len c =
     let v = c.args.lists.now.records in
     let long = v.ok.0 in
     sym (ap edge_of (slice_get_past (vec_items v) c.args.index (omega (arith, c.len.ensures))))

@@ -12,12 +12,12 @@ last_end (e ∷ (f ∷ es)) some =
     let k : length (e ∷ (f ∷ es)) - 1 ≡ suc (length (f ∷ es) - 1) = omega arith in
     ap (λ (n : ℕ). get_or (e ∷ (f ∷ es)) n 0 + 1) k ∙ last_end (f ∷ es) (λ (z : length (f ∷ es) ≡ 0). omega arith)
 
-pub returns_then_is_empty : goal.returns_then_is_empty
-returns_then_is_empty c =
+pub returns-then-is_empty : goal.returns-then-is_empty
+returns-then-is_empty c =
     let es = c.args.ends.now in
-    sym (ap points_in (nil_from_length es (eqb-true (length es) 0 (sym c.if-is-empty.ensures))))
+    sym (ap points_in (nil_from_length es (eqb-true (length es) 0 (sym c.if-is_empty.ensures))))
 
 pub returns : goal.returns
 returns c =
     let es = c.args.ends.now in
-    ap (λ (n : ℕ). n + 1) c.from.ensures ∙ last_end es (eqb-false (length es) 0 (sym c.if-is-empty.ensures))
+    ap (λ (n : ℕ). n + 1) c.from.ensures ∙ last_end es (eqb-false (length es) 0 (sym c.if-is_empty.ensures))

@@ -7,4 +7,4 @@ pub returns : goal.returns
 returns c =
     c.pair.ensures
     ∙ said (group_of (c.args.flag % 128)) (c.args.flag % 128) c.args.bytes.now c.args.row _ _ _
-    c.requires.0 c.number_of_data.ensures c.from.ensures c.from-2.ensures c.requires.1 (λ i. (c.type_inv.bytes i).fits)
+    c.requires.0 c.number_of-data.ensures c.from.ensures c.from-2.ensures c.requires.1 (λ i. (c.type_inv.bytes i).fits)

@@ -3,8 +3,8 @@ use Rattle.std.proofs.lemmas.List.{length-drop, length-take}
 use Rattle.read.proofs.Arrays.{field_at, field_past}
 use Rattle.read.proofs.array.field_bytes.Goals as goal
 
-pub returns_in_err_at : goal.returns_in_err_at
-returns_in_err_at g c =
+pub returns-in_err-at : goal.returns-in_err-at
+returns-in_err-at g c =
     rw c.from_residual.ensures
     (field_past g.T.ReadUnchecked.size g.T.ReadUnchecked.decode c.args.index c.args.bytes.now c.in_err-at.ensures)
 

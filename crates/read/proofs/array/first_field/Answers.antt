@@ -2,8 +2,8 @@ use Rattle.std.proofs.Common.{◌≡◌, take, drop, ap, ◌∙◌, arith}
 use Rattle.read.proofs.Arrays.{fields_more, fields_none}
 use Rattle.read.proofs.array.first_field.Goals as goal
 
-pub returns_then_bytes_size : goal.returns_then_bytes_size
-returns_then_bytes_size g c =
+pub returns-then-bytes-size : goal.returns-then-bytes-size
+returns-then-bytes-size g c =
     fields_none g.T.ReadUnchecked.size g.T.ReadUnchecked.decode c.args.bytes.now (omega (arith, c.size.ensures))
 
 pub returns : goal.returns

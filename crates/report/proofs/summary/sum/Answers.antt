@@ -7,13 +7,13 @@ use Rattle.report.specs.Summaries.{added, Summed}
 use Rattle.report.proofs.Steps.{folded_sums, nothing}
 use Rattle.report.proofs.summary.sum.Goals as goal
 
-pub loop_record_preserved : goal.loop_record_preserved
-loop_record_preserved c =
+pub loop-record-preserved : goal.loop-record-preserved
+loop-record-preserved c =
     let records = c.args.records.now in
     let i = c.loop-record.record-index in
     let low : i < length records = omega arith in (
-      c.with_one_more_summary.ensures.value ∙ (ap (λ s. added s (get_or records i (record_of start empty))) c.loop-record.invariant.0 ∙ sym (fold_more added nothing records i (record_of start empty) low)),
-      c.with_one_more_summary.ensures.within i c.loop-record.invariant.1,
+      c.with_one_more-summary.ensures.value ∙ (ap (λ s. added s (get_or records i (record_of start empty))) c.loop-record.invariant.0 ∙ sym (fold_more added nothing records i (record_of start empty) low)),
+      c.with_one_more-summary.ensures.within i c.loop-record.invariant.1,
     )
 
 pub returns : goal.returns

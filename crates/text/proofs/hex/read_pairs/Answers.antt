@@ -4,8 +4,8 @@ use Rattle.text.specs.Hex.{followed, pair_said, pairs}
 use Rattle.text.proofs.Pairs.{behind, behind_followed, pairs_at}
 use Rattle.text.proofs.hex.read_pairs.Goals as goal
 
-pub returns_in_default : goal.returns_in_default
-returns_in_default c =
+pub returns-in_default : goal.returns-in_default
+returns-in_default c =
     let text = c.args.text.now in
     let i = c.loop-i.i in
     let left : 0 < length (drop (2 * i) text) = simp length-drop (omega arith) in
@@ -13,15 +13,15 @@ returns_in_default c =
     c.loop-i.invariant
     ∙ ap (behind (vec_items c.loop-i.bytes)) (pairs_at text i left ∙ ap (λ p. followed p (pairs (drop (2 * (i + 1)) text))) none)
 
-pub loop_i_preserved : goal.loop_i_preserved
-loop_i_preserved c =
+pub loop-i-preserved : goal.loop-i-preserved
+loop-i-preserved c =
     let text = c.args.text.now in
     let i = c.loop-i.i in
     let rest = pairs (drop (2 * (i + 1)) text) in
     let bytes = vec_items c.loop-i.bytes in
     let left : 0 < length (drop (2 * i) text) = simp length-drop (omega arith) in
     let some : pair_said (drop (2 * i) text) ≡ Some c.in-Some.byte = rw take_rest at (sym c.first_pair.ensures ∙ c.in-Some.is) in
-    let pushed = c.push.ensures.items ∙ ap (λ ok. cond ok (bytes ++ c.in-Some.byte ∷ []) bytes) c.if-is-err.ensures.negation in
+    let pushed = c.push.ensures.items ∙ ap (λ ok. cond ok (bytes ++ c.in-Some.byte ∷ []) bytes) c.if-is_err.ensures.negation in
     c.loop-i.invariant
     ∙ (ap (behind bytes) (pairs_at text i left ∙ ap (λ p. followed p rest) some)
     ∙ (behind_followed bytes c.in-Some.byte rest ∙ ap (λ bs. behind bs rest) (sym pushed)))

@@ -3,5 +3,5 @@ use Rattle.text.specs.Hex.{pairs}
 use Rattle.text.proofs.Pairs.{behind}
 use Rattle.text.proofs.hex.read_pairs.Given as goal
 
-abbrev pub invariant_loop_i : goal.invariant_loop_i
-invariant_loop_i l = pairs l.text ≡ behind (vec_items l.bytes) (pairs (drop (2 * l.i) l.text))
+abbrev pub invariant-loop-i : goal.invariant-loop-i
+invariant-loop-i l = pairs l.text ≡ behind (vec_items l.bytes) (pairs (drop (2 * l.i) l.text))

@@ -5,16 +5,16 @@ use Rattle.unpack.specs.Cursors.{left}
 use Rattle.unpack.proofs.Counts.{a_composite_one, a_simple_one, composite_laid, minus_one, positive, simple_laid}
 use Rattle.unpack.proofs.glyphs.read_glyph.Goals as goal
 
-pub returns_then_contours_gt0 : goal.returns_then_contours_gt0
-returns_then_contours_gt0 c =
+pub returns-then-contours-gt0 : goal.returns-then-contours-gt0
+returns-then-contours-gt0 c =
     let fits : SFits w16 c.in_ok-contours.contours = search rules in
     let s = left c.args.streams.now in
     let counted = taken_when 2 s.contours c.read.new.self.rest.now c.in_ok-contours.ensures (λ q. let f = q.0 in let z : ◌≡◌ {A = ℕ} 0 1 = cc in omega arith) in
     simple_laid c.args.boxed c.args.at c.read_simple.result (left c.read_simple.new.streams) s.composites c.args.ends.now c.read_simple.new.ends c.args.instructions.now c.read_simple.new.instructions c.args.points.now c.read_simple.new.points c.args.components.now _
     _ _ (a_simple_one c.args.boxed s c.in_ok-contours.contours c.read.new.self.rest.now counted c.unsigned.result (simp to_z-of_z at c.unsigned.ensures) (positive c.in_ok-contours.contours fits c.if-contours-gt0.true)) refl c.read_simple.ensures
 
-pub returns_then_contours : goal.returns_then_contours
-returns_then_contours c =
+pub returns-then-contours : goal.returns-then-contours
+returns-then-contours c =
     let fits : SFits w16 c.in_ok-contours.contours = search rules in
     let s = left c.args.streams.now in
     let counted = taken_when 2 s.contours c.read.new.self.rest.now c.in_ok-contours.ensures (λ q. let f = q.0 in let z : ◌≡◌ {A = ℕ} 0 1 = cc in omega arith) in

@@ -7,8 +7,8 @@ use Rattle.glyph.proofs.Lays.{laid_more}
 use Rattle.unpack.proofs.Judged.{when_refused}
 use Rattle.unpack.proofs.outline.read_ends.Goals as goal
 
-pub loop_i_preserved : goal.loop_i_preserved
-loop_i_preserved c =
+pub loop-i-preserved : goal.loop-i-preserved
+loop-i-preserved c =
     let inv = c.loop-i.invariant in
     let es = inv.0 in
     let i = c.loop-i.i in
@@ -26,16 +26,16 @@ loop_i_preserved c =
       inv.3 ∙ turned c.args.contours i c.loop-i.points es bs low c.in_ok-size.size sum rest (packed_took bs rest c.in_ok-size.size c.in_ok-size.ensures) c.in_ok-sum.ensures,
     )
 
-pub returns_in_err_size : goal.returns_in_err_size
-returns_in_err_size c =
+pub returns-in_err-size : goal.returns-in_err-size
+returns-in_err-size c =
     let inv = c.loop-i.invariant in
     let p = err_from_is_err_and c.from_residual.result c.from_residual.ensures.1 in
     let low : c.loop-i.i < c.args.contours = omega arith in
     let e = inv.3 ∙ ended c.args.contours c.loop-i.i c.loop-i.points inv.0 c.loop-i.ctxt.rest.now low c.in_err-size.field-0.0 (packed_missed c.loop-i.ctxt.rest.now c.read.new.ctxt.rest.now c.in_err-size.field-0.0 c.in_err-size.ensures) in
     when_refused _ _ _ _ e (p.1 ∙ ap Err p.2)
 
-pub returns_in_err_sum : goal.returns_in_err_sum
-returns_in_err_sum c =
+pub returns-in_err-sum : goal.returns-in_err-sum
+returns-in_err-sum c =
     let inv = c.loop-i.invariant in
     let bs = c.loop-i.ctxt.rest.now in
     let rest = c.read.new.ctxt.rest.now in

@@ -5,8 +5,8 @@ use Rattle.unpack.proofs.Points.{past_x, past_y, reached, steps_took}
 use Rattle.unpack.proofs.Judged.{when_accepted, when_refused}
 use Rattle.unpack.proofs.outline.read_point.Goals as goal
 
-pub returns_in_err_x : goal.returns_in_err_x
-returns_in_err_x c =
+pub returns-in_err-x : goal.returns-in_err-x
+returns-in_err-x c =
     let lx : SFits w16 c.args.last.x = search rules in
     let fx : SFits w16 c.in_ok-dx.dx = search rules in
     let a = simp to_z-of_z at c.in_err-x.ensures in
@@ -16,8 +16,8 @@ returns_in_err_x c =
     (past_x c.args.last c.args.flag c.args.glyphs.now.rest.now c.read_steps.new.glyphs.rest.now (c.in_ok-dx.dx, c.in_ok-dx.dy) read c.in_err-x.field-0.0 a)
     (p.1 ∙ ap Err p.2)
 
-pub returns_in_err_y : goal.returns_in_err_y
-returns_in_err_y c =
+pub returns-in_err-y : goal.returns-in_err-y
+returns-in_err-y c =
     let ly : SFits w16 c.args.last.y = search rules in
     let fy : SFits w16 c.in_ok-dx.dy = search rules in
     let b = simp to_z-of_z at c.in_err-y.ensures in

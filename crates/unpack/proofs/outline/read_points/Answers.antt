@@ -8,8 +8,8 @@ use Rattle.unpack.proofs.Points.{accepted, ended, rejected, turned}
 use Rattle.unpack.proofs.Judged.{when_accepted, when_refused}
 use Rattle.unpack.proofs.outline.read_points.Goals as goal
 
-pub loop_flag_preserved : goal.loop_flag_preserved
-loop_flag_preserved c =
+pub loop-flag-preserved : goal.loop-flag-preserved
+loop-flag-preserved c =
     let inv = c.loop-flag.invariant in
     let ps = inv.0 in
     let i = c.loop-flag.flag-index in
@@ -32,8 +32,8 @@ loop_flag_preserved c =
           (accepted (point_said c.loop-flag.last (get_or c.args.flags.now i 0) bs) rest p c.in_ok-next.ensures),
     )
 
-pub returns_in_err_next : goal.returns_in_err_next
-returns_in_err_next c =
+pub returns-in_err-next : goal.returns-in_err-next
+returns-in_err-next c =
     let inv = c.loop-flag.invariant in
     let i = c.loop-flag.flag-index in
     let bs = c.loop-flag.glyphs.rest.now in

@@ -5,7 +5,7 @@ use Rattle.unpack.specs.Outlines.{points_said}
 use Rattle.glyph.specs.Outlines.{origin}
 use Rattle.unpack.proofs.outline.read_points.Given as goal
 
-abbrev pub invariant_loop_flag : goal.invariant_loop_flag
-invariant_loop_flag l =
+abbrev pub invariant-loop-flag : goal.invariant-loop-flag
+invariant-loop-flag l =
     (ps : List Point) × (length ps ≡ l.flag-index) × (l.place ≡ l.at + l.flag-index) × (l.points ≡ laid l.at ps l.initial.points)
     × (points_said l.flags [] origin l.initial.glyphs.rest.now ≡ points_said (drop l.flag-index l.flags) ps l.last l.glyphs.rest.now)

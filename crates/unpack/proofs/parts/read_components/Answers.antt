@@ -8,17 +8,17 @@ use Rattle.glyph.proofs.Lays.{laid_more}
 use Rattle.unpack.proofs.Judged.{when_accepted, when_refused}
 use Rattle.unpack.proofs.parts.read_components.Goals as goal
 
-pub loop_component_init : goal.loop_component_init
-loop_component_init c =
+pub loop-component-init : goal.loop-component-init
+loop-component-init c =
     let bs = c.args.ctxt.now.rest.now in
     let all : suc (length bs) ≡ suc (length bs) - 0 = omega arith in
     ([], refl, omega arith, refl, ap (λ k. components_said k [] false bs) all)
 
-pub loop_component_smaller : goal.loop_component_smaller
-loop_component_smaller c = let got = part_took c.loop-component.ctxt.rest.now c.read_component.new.ctxt.rest.now c.in_ok-component.component c.in_ok-component.ensures in omega (arith, got.1)
+pub loop-component-smaller : goal.loop-component-smaller
+loop-component-smaller c = let got = part_took c.loop-component.ctxt.rest.now c.read_component.new.ctxt.rest.now c.in_ok-component.component c.in_ok-component.ensures in omega (arith, got.1)
 
-pub returns_in_err_component : goal.returns_in_err_component
-returns_in_err_component c =
+pub returns-in_err-component : goal.returns-in_err-component
+returns-in_err-component c =
     let inv = c.loop-component.invariant in
     let bs = c.loop-component.ctxt.rest.now in
     let p = err_from_is_err_and c.from_residual.result c.from_residual.ensures.1 in
@@ -29,8 +29,8 @@ returns_in_err_component c =
     (part_missed bs c.read_component.new.ctxt.rest.now c.in_err-component.field-0.0 c.in_err-component.ensures))
     (p.1 ∙ ap Err p.2)
 
-pub loop_component_preserved : goal.loop_component_preserved
-loop_component_preserved c =
+pub loop-component-preserved : goal.loop-component-preserved
+loop-component-preserved c =
     let inv = c.loop-component.invariant in
     let cs = inv.0 in
     let part = c.in_ok-component.component in
@@ -48,8 +48,8 @@ loop_component_preserved c =
       omega (arith, inv.2, got.1),
       put,
       inv.4
-          ∙ (more (suc (length c.args.ctxt.now.rest.now)) c.loop-component.count cs c.loop-component.have_instructions bs low part rest got.0 (sym c.if-not-has-more.ensures)
-          ∙ ap (λ m. components_said (suc (length c.args.ctxt.now.rest.now) - (c.loop-component.count + 1)) (cs ++ part ∷ []) m rest) (sym c.marked_have_instructions.ensures)),
+          ∙ (more (suc (length c.args.ctxt.now.rest.now)) c.loop-component.count cs c.loop-component.have_instructions bs low part rest got.0 (sym c.if-not-has_more.ensures)
+          ∙ ap (λ m. components_said (suc (length c.args.ctxt.now.rest.now) - (c.loop-component.count + 1)) (cs ++ part ∷ []) m rest) (sym c.marked-have_instructions.ensures)),
     )
 
 pub returns : goal.returns
@@ -68,7 +68,7 @@ returns c =
     in
     let e =
     inv.4
-    ∙ last (suc (length c.args.ctxt.now.rest.now)) c.loop-component.count cs c.loop-component.have_instructions bs low part rest got.0 (sym c.if-not-has-more.ensures)
+    ∙ last (suc (length c.args.ctxt.now.rest.now)) c.loop-component.count cs c.loop-component.have_instructions bs low part rest got.0 (sym c.if-not-has_more.ensures)
     in
     let n : c.loop-component.count + 1 ≡ length (cs ++ part ∷ []) = sym (length_push cs part ∙ omega (arith, inv.1)) in
-    when_accepted _ _ _ _ e (ap (λ k. Ok (k, c.marked_have_instructions.result)) n ∙ ap (λ m. Ok (length (cs ++ part ∷ []), m)) c.marked_have_instructions.ensures, refl, put, omega (arith, inv.1, inv.2, got.1, n))
+    when_accepted _ _ _ _ e (ap (λ k. Ok (k, c.marked-have_instructions.result)) n ∙ ap (λ m. Ok (length (cs ++ part ∷ []), m)) c.marked-have_instructions.ensures, refl, put, omega (arith, inv.1, inv.2, got.1, n))

@@ -11,9 +11,9 @@ use Rattle.unpack.proofs.Judged.{fault, when_accepted, when_refused}
 use Rattle.unpack.proofs.Reading.{bit_here, one_more, refused_here}
 use Rattle.unpack.proofs.run.read_glyphs.Goals as goal
 
-pub loop_i_init : goal.loop_i_init
-loop_i_init c =
-    let e = c.new_streams.ensures in
+pub loop-i-init : goal.loop-i-init
+loop-i-init c =
+    let e = c.new-streams.ensures in
     record {
       gs = [];
       count = refl;
@@ -26,35 +26,35 @@ loop_i_init c =
       same = ap (glyphs_said (table_bits c.args.table.now) []) (sym e);
     }
 
-pub returns_in_err_at : goal.returns_in_err_at
-returns_in_err_at c =
+pub returns-in_err-at : goal.returns-in_err-at
+returns-in_err-at c =
     let t = c.args.table.now in
     let i = c.loop-i.i in
     let low : i < t.header.num_glyphs = omega arith in
     let bit =
-    c.unwrap_or_boxed.ensures
+    c.unwrap_or-boxed.ensures
     ∙ (ap (λ o. unwrap_or o false) c.get.ensures
-    ∙ ap (λ (bs : List ℕ). unwrap_or (slice_get (bits bs) c.from.result) false) (c.new_bitmap.ensures ∙ c.data.ensures))
+    ∙ ap (λ (bs : List ℕ). unwrap_or (slice_get (bits bs) c.from.result) false) (c.new-bitmap.ensures ∙ c.data.ensures))
     in
-    let here = bit_here t.bbox_bitmap.bytes.now t.header.num_glyphs i c.from.result c.unwrap_or_boxed.result c.from.ensures low c.requires.0 bit in
+    let here = bit_here t.bbox_bitmap.bytes.now t.header.num_glyphs i c.from.result c.unwrap_or-boxed.result c.from.ensures low c.requires.0 bit in
     let p = err_from_is_err_and c.from_residual.result c.from_residual.ensures.1 in
     let missed = fault _ _ (λ q. behind c.loop-i.at q.0) _ (λ q h. h.0) c.in_err-at.ensures in
     when_refused _ _ _ _
-    (refused_here (table_bits t) (table_streams t) (left c.loop-i.streams) (left c.loop-i.streams) i c.unwrap_or_boxed.result c.loop-i.at c.loop-i.at c.args.records.now c.loop-i.records c.loop-i.records c.args.ends.now c.loop-i.ends c.loop-i.ends c.args.points.now c.loop-i.points c.loop-i.points c.args.components.now c.loop-i.components c.loop-i.components c.args.instructions.now c.loop-i.instructions c.loop-i.instructions here c.loop-i.invariant c.in_err-at.field-0.0 missed)
+    (refused_here (table_bits t) (table_streams t) (left c.loop-i.streams) (left c.loop-i.streams) i c.unwrap_or-boxed.result c.loop-i.at c.loop-i.at c.args.records.now c.loop-i.records c.loop-i.records c.args.ends.now c.loop-i.ends c.loop-i.ends c.args.points.now c.loop-i.points c.loop-i.points c.args.components.now c.loop-i.components c.loop-i.components c.args.instructions.now c.loop-i.instructions c.loop-i.instructions here c.loop-i.invariant c.in_err-at.field-0.0 missed)
     (p.1 ∙ ap Err p.2)
 
-pub loop_i_preserved : goal.loop_i_preserved
-loop_i_preserved c =
+pub loop-i-preserved : goal.loop-i-preserved
+loop-i-preserved c =
     let t = c.args.table.now in
     let i = c.loop-i.i in
     let low : i < t.header.num_glyphs = omega arith in
     let bit =
-    c.unwrap_or_boxed.ensures
+    c.unwrap_or-boxed.ensures
     ∙ (ap (λ o. unwrap_or o false) c.get.ensures
-    ∙ ap (λ (bs : List ℕ). unwrap_or (slice_get (bits bs) c.from.result) false) (c.new_bitmap.ensures ∙ c.data.ensures))
+    ∙ ap (λ (bs : List ℕ). unwrap_or (slice_get (bits bs) c.from.result) false) (c.new-bitmap.ensures ∙ c.data.ensures))
     in
-    let here = bit_here t.bbox_bitmap.bytes.now t.header.num_glyphs i c.from.result c.unwrap_or_boxed.result c.from.ensures low c.requires.0 bit in
-    one_more (table_bits t) (table_streams t) (left c.loop-i.streams) (left c.read_next.new.streams) i c.unwrap_or_boxed.result c.loop-i.at c.in_ok-at.at c.args.records.now c.loop-i.records c.read_next.new.records c.args.ends.now c.loop-i.ends c.read_next.new.ends c.args.points.now c.loop-i.points c.read_next.new.points c.args.components.now c.loop-i.components c.read_next.new.components c.args.instructions.now c.loop-i.instructions c.read_next.new.instructions here c.loop-i.invariant
+    let here = bit_here t.bbox_bitmap.bytes.now t.header.num_glyphs i c.from.result c.unwrap_or-boxed.result c.from.ensures low c.requires.0 bit in
+    one_more (table_bits t) (table_streams t) (left c.loop-i.streams) (left c.read_next.new.streams) i c.unwrap_or-boxed.result c.loop-i.at c.in_ok-at.at c.args.records.now c.loop-i.records c.read_next.new.records c.args.ends.now c.loop-i.ends c.read_next.new.ends c.args.points.now c.loop-i.points c.read_next.new.points c.args.components.now c.loop-i.components c.read_next.new.components c.args.instructions.now c.loop-i.instructions c.read_next.new.instructions here c.loop-i.invariant
     c.in_ok-at.ensures
 
 pub returns : goal.returns

@@ -6,8 +6,8 @@ use Rattle.unpack.proofs.Judged.{fault, same_ok, told, when_refused}
 use Rattle.unpack.proofs.Whole.{composite_answer, no_marked, no_own_box, own_box_missed}
 use Rattle.unpack.proofs.shapes.read_composite.Goals as goal
 
-pub returns_in_err_hints : goal.returns_in_err_hints
-returns_in_err_hints c =
+pub returns-in_err-hints : goal.returns-in_err-hints
+returns-in_err-hints c =
     let s = left c.args.streams.now in
     let a = told _ _ _ c.in_ok-count.ensures in
     let mark = ap (λ (p : ℕ × Bool). p.1) (same_ok _ _ a.2.0) in
@@ -18,8 +18,8 @@ returns_in_err_hints c =
     (ap (λ m. marked_instructions m s.glyphs s.instructions) (sym mark) ∙ missed))
     (p.1 ∙ ap Err p.2)
 
-pub returns_in_err_bbox : goal.returns_in_err_bbox
-returns_in_err_bbox c =
+pub returns-in_err-bbox : goal.returns-in_err-bbox
+returns-in_err-bbox c =
     let s = left c.args.streams.now in
     let a = told _ _ _ c.in_ok-count.ensures in
     let i = told _ _ _ c.in_ok-hints.ensures in

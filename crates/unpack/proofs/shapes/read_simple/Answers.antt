@@ -11,8 +11,8 @@ use Rattle.unpack.proofs.Lengths.{ends_length, points_length}
 use Rattle.unpack.proofs.Whole.{box_or_missed, box_or_own, no_box_read, no_hints, simple_answer}
 use Rattle.unpack.proofs.shapes.read_simple.Goals as goal
 
-pub returns_in_err_hints : goal.returns_in_err_hints
-returns_in_err_hints c =
+pub returns-in_err-hints : goal.returns-in_err-hints
+returns-in_err-hints c =
     let s = left c.args.streams.now in
     let a = told _ _ _ c.in_ok-count.ensures in
     let t = taken_when c.from.result s.flags c.read_slice.new.self.rest.now c.in_ok-flags.ensures (λ q. let f = q.0 in let z : ◌≡◌ {A = ℕ} 0 1 = cc in omega arith) in
@@ -26,8 +26,8 @@ returns_in_err_hints c =
     (ap (λ g. instructions_said g s.instructions) (sym d.2.1) ∙ missed))
     (p.1 ∙ ap Err p.2)
 
-pub returns_in_err_bbox : goal.returns_in_err_bbox
-returns_in_err_bbox c =
+pub returns-in_err-bbox : goal.returns-in_err-bbox
+returns-in_err-bbox c =
     let s = left c.args.streams.now in
     let a = told _ _ _ c.in_ok-count.ensures in
     let t = taken_when c.from.result s.flags c.read_slice.new.self.rest.now c.in_ok-flags.ensures (λ q. let f = q.0 in let z : ◌≡◌ {A = ℕ} 0 1 = cc in omega arith) in

@@ -2,8 +2,8 @@ use Rattle.std.proofs.Common.{◌^◌, ◌<◌, arith, rules}
 use Rattle.unpack.proofs.Apart.{bit_for_each, composites_short, read_apart, was_apart}
 use Rattle.unpack.proofs.table.read_into.Goals as goal
 
-pub fill_requires : goal.fill_requires
-fill_requires c =
+pub fill-requires : goal.fill-requires
+fill-requires c =
     let t = c.in_ok-table.table in
     let bs = c.args.data.now in
     let h = was_apart bs c.read.result t c.in_ok-table.ensures c.read.ensures in

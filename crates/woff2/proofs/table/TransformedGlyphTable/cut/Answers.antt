@@ -4,8 +4,8 @@ use Rattle.woff2.specs.Transformed.{bitmap_size, boxes_at, cut}
 use Rattle.woff2.proofs.Streams.{cut_back, cut_front, stream_at}
 use Rattle.woff2.proofs.table.TransformedGlyphTable.cut.Goals as goal
 
-pub split_at_requires : goal.split_at_requires
-split_at_requires c =
+pub split_at-requires : goal.split_at-requires
+split_at-requires c =
     let bs = c.args.data.now in
     let h = c.args.header in
     let whole : length c.stream.result.now ≡ length (cut (boxes_at h) h.bbox_size bs) =

@@ -7,8 +7,8 @@ use Rattle.woff2.specs.declared.table.TransformedGlyphTable.{TransformedGlyphTab
 use Rattle.woff2.proofs.Streams.{no_fault}
 use Rattle.woff2.proofs.table.TransformedGlyphTable.take_apart.Goals as goal
 
-pub cut_requires : goal.cut_requires
-cut_requires c = no_fault c.in_ok-header.header _ c.in_ok-check_streams.ensures
+pub cut-requires : goal.cut-requires
+cut-requires c = no_fault c.in_ok-header.header _ c.in_ok-check_streams.ensures
 
 -- A header that was read is the one that the bytes say.
 whole : (b : Bool) (bs : List ℕ) (h said : GlyfHeader) (t : TransformedGlyphTable) → MatchBool b (◌≡◌ {A = Result GlyfHeader ParseError} (Ok h) (Ok said)) (◌≡◌ {A = Result GlyfHeader ParseError} (Ok h) (Err BadEof)) → streams_fault h (length bs) ≡ None → Streams h bs t → MatchBool b ((streams_fault said (length bs) ≡ None) × Streams said bs t) (◌≡◌ {A = Result TransformedGlyphTable ParseError} (Ok t) (Err BadEof))

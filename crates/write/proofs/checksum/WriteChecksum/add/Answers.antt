@@ -2,8 +2,8 @@ use Rattle.std.proofs.Common.{refl, arith}
 use Rattle.write.specs.Sums.{added_up, still_filled}
 use Rattle.write.proofs.checksum.WriteChecksum.add.Goals as goal
 
-pub invariant_of_self : goal.invariant_of_self
-invariant_of_self c =
+pub invariant_of-self : goal.invariant_of-self
+invariant_of-self c =
     let s = c.args.self.now in
     (c.added_self.type_inv, (still_filled s.count s.sum _ c.added_self.result c.args.bytes.now s.small s.filled refl c.added_self.ensures, tt))
 

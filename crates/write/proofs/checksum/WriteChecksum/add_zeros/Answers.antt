@@ -3,8 +3,8 @@ use Rattle.std.proofs.lemmas.List.{length-replicate}
 use Rattle.write.specs.Sums.{added_up, adds_zeros, still_filled}
 use Rattle.write.proofs.checksum.WriteChecksum.add_zeros.Goals as goal
 
-pub invariant_of_self : goal.invariant_of_self
-invariant_of_self c =
+pub invariant_of-self : goal.invariant_of-self
+invariant_of-self c =
     let s = c.args.self.now in
     let zeros = replicate c.args.n 0 in (
       s.small,

@@ -14,12 +14,12 @@ step xs bs i at place total add h long here adds sums =
     ∙ (ap checksum (sym (append_assoc xs (take i bs) (get_or bs i 0 ∷ [])))
     ∙ (checksum_push (xs ++ take i bs) (get_or bs i 0) ∙ ap (λ (k : ℕ). k % 4294967296) (omega arith)))
 
-pub loop_byte_preserved : goal.loop_byte_preserved
-loop_byte_preserved c = (
+pub loop-byte-preserved : goal.loop-byte-preserved
+loop-byte-preserved c = (
   omega arith,
   λ xs p q.
-      step xs c.args.bytes.now c.loop-byte.byte-index c.args.at c.loop-byte.place c.loop-byte.total c.placed_total.result
-      (omega arith) p c.loop-byte.invariant.0 c.placed_total.ensures (c.loop-byte.invariant.1 xs p q),
+      step xs c.args.bytes.now c.loop-byte.byte-index c.args.at c.loop-byte.place c.loop-byte.total c.placed-total.result
+      (omega arith) p c.loop-byte.invariant.0 c.placed-total.ensures (c.loop-byte.invariant.1 xs p q),
 )
 
 pub returns : goal.returns
