@@ -8,7 +8,7 @@ use Rattle.binary_write.proofs.Walks.{not_both, put_none, turn}
 use Rattle.binary_write.proofs.arrays.write_items.Given as given
 use Rattle.binary_write.proofs.arrays.write_items.Goals as goal
 
-abbrev all : (g : given.Over) → List ℕ → List g.row.THostType.Denot
+abbrev all : (g : given.Over) → List ℕ → List g.row.T-HostType.Denot
 all g bs = fields g.T.ReadUnchecked.size g.T.ReadUnchecked.decode bs
 
 -- What came so far is shorter than the whole, where something comes.

@@ -6,14 +6,12 @@ use Rattle.write.proofs.checksum.WriteChecksum.add_zeros.Goals as goal
 pub invariant_of-self : goal.invariant_of-self
 invariant_of-self c =
     let s = c.args.self.now in
-    let zeros = replicate c.args.n 0 in (
-      s.small,
-      (
-        still_filled s.count s.sum c.args.n s.sum zeros s.small s.filled (sym (length-replicate c.args.n 0))
-            (adds_zeros s.count s.sum c.args.n),
-        tt,
-      ),
-    )
+    record {
+      small = s.small;
+      filled =
+          still_filled s.count s.sum c.args.n s.sum (replicate c.args.n 0) s.small s.filled (sym (length-replicate c.args.n 0))
+          (adds_zeros s.count s.sum c.args.n);
+    }
 
 pub returns : goal.returns
 returns c =
