@@ -2,7 +2,7 @@
 #![tactic(auto)]
 
 mod forme;
-mod unpack;
+mod transformed;
 mod view;
 
 pub use forme::Forme;

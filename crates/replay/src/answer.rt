@@ -2,8 +2,8 @@
 use crate::mistake::Mistake;
 use forme::{Forme, GlyphView};
 use glyph::{Lists, Refusal};
+use glyph_text::{GlyphText, Hex, Listed};
 use std::fmt;
-use text::{GlyphText, Hex, Listed};
 
 #[derive(Drop)]
 pub enum Answer<'a> {

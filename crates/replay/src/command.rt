@@ -1,8 +1,8 @@
 //! The commands.
 use crate::mistake::Mistake;
+use glyph_text::{HexError, read_hex};
 use room::Room;
 use std::alloc::Global;
-use text::{HexError, read_hex};
 
 /// Lists longer than this are not made. It is twice as many places as a forme uses of a list.
 const MOST_ROOM: u32 = 33_554_432;

@@ -2,8 +2,8 @@
 use crate::summary::{Kinds, Summary};
 use forme::Forme;
 use glyph::Lists;
+use glyph_text::GlyphText;
 use std::fmt;
-use text::GlyphText;
 
 /// A face: a line for each glyph, and a summary.
 #[derive(Drop)]

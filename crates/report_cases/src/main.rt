@@ -1,9 +1,6 @@
-//! Reports on a small table, cut short at every length, and on headers that contradict themselves; refusals in words.
+//! Reports on a small table, cut short at every length, and on headers that contradict themselves.
 #![tactic(auto)]
-
-use glyph::{Cause, NO_GLYPH, Refusal};
-use read::error::ParseError;
-use report::{RefusalText, Report};
+use report::Report;
 use std::io;
 
 // Two glyphs: an empty one, and one of three points.
@@ -32,20 +29,6 @@ fn show(rt: &impl Print, name: &str, table: &[u8]) -> io::Result<()> {
     }
 }
 
-fn show_refusal(rt: &impl Print, cause: Cause, glyph: u16) -> io::Result<()> {
-    let refusal = RefusalText(Refusal { cause, glyph });
-    println!(rt; "{refusal}")
-}
-
-fn show_refusals(rt: &impl Print) -> io::Result<()> {
-    println!(rt; "# refusals")?;
-    show_refusal(rt, Cause::Parse(ParseError::BadEof), NO_GLYPH)?;
-    show_refusal(rt, Cause::Parse(ParseError::BadEof), 0)?;
-    show_refusal(rt, Cause::Parse(ParseError::BadValue), 1)?;
-    show_refusal(rt, Cause::Parse(ParseError::BadIndex), 65534)?;
-    show_refusal(rt, Cause::Lists, NO_GLYPH)
-}
-
 fn main(rt: HostRuntime) -> io::Result<()> {
     show(&rt, "nothing", &[])?;
     for len in 1..53 {
@@ -64,6 +47,5 @@ fn main(rt: HostRuntime) -> io::Result<()> {
     show(&rt, "the header alone", &TABLE[0..36])?;
     show(&rt, "one byte missing", &TABLE[0..51])?;
     show(&rt, "boxes shorter than their bitmap", &with_boxes(2, 1, 3))?;
-    show(&rt, "a bitmap that passes the end", &with_boxes(33, 2, 4))?;
-    show_refusals(&rt)
+    show(&rt, "a bitmap that passes the end", &with_boxes(33, 2, 4))
 }

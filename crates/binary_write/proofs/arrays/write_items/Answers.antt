@@ -20,7 +20,7 @@ loop-value-init g c = (
   tt,
   tt,
   put_none g.C.WriteContext.meaning c.args.ctxt.now,
-  ap (all g) (sym (ap (λ i. i.bytes.now) c.into-iter-value-iterator.ensures.into-iter-gives ∙ c.iter-value-items.ensures)),
+  ap (all g) (sym (ap (λ i. i.bytes.now) c.into_iter-value-iterator.ensures.into_iter_gives ∙ c.iter-value-items.ensures)),
 )
 
 pub loop-value-preserved : goal.loop-value-preserved

@@ -2,10 +2,10 @@
 #![tactic(auto)]
 
 mod component;
-mod glyph;
 mod hex;
+mod line;
 mod listed;
 
-pub use glyph::GlyphText;
 pub use hex::{Hex, HexError, read_hex};
+pub use line::GlyphText;
 pub use listed::{Entry, Listed};

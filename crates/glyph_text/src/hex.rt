@@ -1,6 +1,6 @@
 //! Bytes in hexadecimal.
 ghost use Rattle.std.specs.Prelude.{◌≡◌, ◌<◌, IfSome};
-ghost use Rattle.text.specs.Hex.{digit_said, hex_said, is_dash, pair_said, pairs, Read};
+ghost use Rattle.glyph_text.specs.Hex.{digit_said, hex_said, is_dash, pair_said, pairs, Read};
 
 use std::alloc::Global;
 use std::fmt;

@@ -1,8 +1,8 @@
 use Rattle.std.proofs.Common.{◌≡◌, ◌+◌, ◌*◌, ◌<◌, cond, [], ◌∷◌, ◌++◌, length, drop, Some, None, vec_items, sym, ap, ◌∙◌, append-nil, arith}
 use Rattle.std.proofs.lemmas.List.{drop_all, length-drop, take_rest}
-use Rattle.text.specs.Hex.{followed, pair_said, pairs}
-use Rattle.text.proofs.Pairs.{behind, behind_followed, pairs_at}
-use Rattle.text.proofs.hex.read_pairs.Goals as goal
+use Rattle.glyph_text.specs.Hex.{followed, pair_said, pairs}
+use Rattle.glyph_text.proofs.Pairs.{behind, behind_followed, pairs_at}
+use Rattle.glyph_text.proofs.hex.read_pairs.Goals as goal
 
 pub returns-in_default : goal.returns-in_default
 returns-in_default c =

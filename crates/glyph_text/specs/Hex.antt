@@ -2,8 +2,8 @@
 use Rattle.std.specs.Prelude.{◌≡◌, ℕ, ◌+◌, ◌-◌, ◌*◌, Bool, cond, List, [], ◌∷◌, length, Some, None, vec_items, Option, Result, Vec, MatchResult, ◌==◌, nat_le, slice_index}
 use Rattle.read.specs.Tests.{both}
 use Rattle.std.specs.declared.alloc.Global.{Global}
-use Rattle.text.specs.declared.hex.HexError.{HexError}
-use Rattle.text.specs.declared.hex.HexError.TheVariants.{NoMemory, NotHex}
+use Rattle.glyph_text.specs.declared.hex.HexError.{HexError}
+use Rattle.glyph_text.specs.declared.hex.HexError.TheVariants.{NoMemory, NotHex}
 
 -- 0 to 9 and a to f, by their codes.
 abbrev pub digit_said : ℕ → Option ℕ

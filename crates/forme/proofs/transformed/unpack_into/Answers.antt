@@ -2,7 +2,7 @@ use Rattle.std.proofs.Common.{Ok, Err, ap, ◌∙◌}
 use Rattle.std.proofs.lemmas.Result.{err_from_is_err_and}
 use Rattle.forme.specs.Formes.{unfitted}
 use Rattle.forme.proofs.Unpacking.{accepts_the_spelled, refuses, unpacks}
-use Rattle.forme.proofs.unpack.unpack_into.Goals as goal
+use Rattle.forme.proofs.transformed.unpack_into.Goals as goal
 
 pub returns-in_err-glyphs : goal.returns-in_err-glyphs
 returns-in_err-glyphs c =

@@ -1,7 +1,7 @@
 -- Pairs of digits, one after the other.
 use Rattle.std.proofs.Common.{◌≡◌, ℕ, ◌+◌, ◌*◌, ◌<◌, List, [], ◌∷◌, ◌++◌, length, drop, Some, None, Option, sym, refl, ap, ◌∙◌, append_assoc, arith}
 use Rattle.std.proofs.lemmas.List.{drop-drop}
-use Rattle.text.specs.Hex.{followed, pair_said, pairs}
+use Rattle.glyph_text.specs.Hex.{followed, pair_said, pairs}
 
 -- Bytes in front of what else was said.
 abbrev pub behind : List ℕ → Option (List ℕ) → Option (List ℕ)
