@@ -2,7 +2,6 @@
 use binary::{BoundingBox, F2Dot14, I8, I16Be, LongHorMetric, U8, U16Be, U32Be};
 use read::error::ParseError;
 use read::{ReadCtxt, ReadScope, ReadUnchecked};
-use std::process::Abort;
 use std::test::Fail;
 
 const BYTES: [u8; 8] = [0xff, 0xfc, 0x80, 0x00, 0x01, 0xf4, 0x7f, 0xff];
@@ -11,31 +10,35 @@ fn cursor(bytes: &[u8]) -> ReadCtxt<'_> {
     ReadScope::new(bytes).ctxt()
 }
 
+fn expect(holds: bool, fault: &str) -> Result<(), Fail> {
+    if holds { Ok(()) } else { Err(Fail::new(fault)) }
+}
+
 // A field is refused on fewer bytes than it has, and the cursor stays; on as many it is read, and none is left.
-fn at_limits<T: ReadUnchecked>(rt: &impl Abort, size: usize)
+fn at_limits<T: ReadUnchecked>(size: usize) -> Result<(), Fail>
 where
     T::HostType: Drop,
 {
     for len in 0..size.min(8) {
         let mut ctxt = cursor(&BYTES[0..len]);
-        assert!(rt; ctxt.read::<T>().is_err());
-        assert_eq!(rt; ctxt.scope().data().len(), len);
+        expect(ctxt.read::<T>().is_err(), "a cut field was read")?;
+        expect(ctxt.scope().data().len() == len, "the cursor moved")?;
     }
     let mut ctxt = cursor(&BYTES[0..size.min(8)]);
-    assert!(rt; ctxt.read::<T>().is_ok());
-    assert_eq!(rt; ctxt.scope().data().len(), 0);
+    expect(ctxt.read::<T>().is_ok(), "a whole field was refused")?;
+    expect(ctxt.scope().data().len() == 0, "bytes were left")
 }
 
 #[test]
-fn every_kind_at_its_limits(rt: HostRuntime) {
-    at_limits::<U8>(&rt, 1);
-    at_limits::<I8>(&rt, 1);
-    at_limits::<U16Be>(&rt, 2);
-    at_limits::<I16Be>(&rt, 2);
-    at_limits::<U32Be>(&rt, 4);
-    at_limits::<F2Dot14>(&rt, 2);
-    at_limits::<BoundingBox>(&rt, 8);
-    at_limits::<LongHorMetric>(&rt, 4);
+fn every_kind_at_its_limits() -> Result<(), Fail> {
+    at_limits::<U8>(1)?;
+    at_limits::<I8>(1)?;
+    at_limits::<U16Be>(2)?;
+    at_limits::<I16Be>(2)?;
+    at_limits::<U32Be>(4)?;
+    at_limits::<F2Dot14>(2)?;
+    at_limits::<BoundingBox>(8)?;
+    at_limits::<LongHorMetric>(4)
 }
 
 #[test]

@@ -14,7 +14,7 @@ fn a_buffer_exactly_full_and_one_over(rt: HostRuntime) -> Result<(), Fail> {
     assert!(rt; buffer.write_zeros(2).is_err());
     assert_eq!(rt; buffer.bytes_written(), 3);
     assert!(rt; buffer.write_zeros(1).is_ok());
-    assert!(rt; buffer.bytes() == &[1, 2, 3, 0]);
+    assert!(rt; buffer.bytes() == [1, 2, 3, 0].as_slice());
     assert_eq!(rt; buffer.space(), 0);
     assert!(rt; buffer.write_bytes(&[]).is_ok());
     Ok(())
@@ -58,7 +58,7 @@ fn fields_all_or_none(rt: HostRuntime) -> Result<(), Fail> {
     assert!(rt; write_vec::<I16Be, WriteBuffer>(&mut buffer, &[-4, 252, 1, 2]).is_err());
     assert_eq!(rt; buffer.bytes_written(), 0);
     assert!(rt; write_vec::<I16Be, WriteBuffer>(&mut buffer, &[-4, 252]).is_ok());
-    assert!(rt; buffer.bytes() == &[0xff, 0xfc, 0x00, 0xfc]);
+    assert!(rt; buffer.bytes() == [0xff, 0xfc, 0x00, 0xfc].as_slice());
     Ok(())
 }
 
@@ -68,7 +68,7 @@ fn an_array_comes_out_as_it_went_in(rt: HostRuntime) -> Result<(), Fail> {
     let array = ReadScope::new(&bytes).ctxt().read_array::<U16Be>(2)?;
     let mut buffer = WriteBuffer::new(vec![in rt.alloc(); 0; 5]?);
     assert!(rt; write_array(&mut buffer, &array).is_ok());
-    assert!(rt; buffer.bytes() == &[0, 1, 2, 3]);
+    assert!(rt; buffer.bytes() == [0, 1, 2, 3].as_slice());
     assert!(rt; write_array(&mut buffer, &array).is_err());
     assert_eq!(rt; buffer.space(), 1);
     Ok(())
