@@ -15,16 +15,16 @@ use read::error::ParseError;
 pub(crate) fn read_components(
     ctxt: &mut ReadCtxt<'_>,
     components: &mut [Component],
-    at: u32,
-) -> Result<(u32, bool), ParseError>
-    requires { at + length ctxt.old.rest.now < 2 ^ 32 }
+    at: usize,
+) -> Result<(usize, bool), ParseError>
+    requires { at < 2 ^ 32 }
     ensures { MatchResult (components_said (suc (length ctxt.old.rest.now)) [] false ctxt.old.rest.now) (λ p. (result ≡ Ok (length p.0, p.1)) × (ctxt.new.rest.now ≡ p.2) × (components.new ≡ laid at p.0 components.old) × (length ctxt.new.rest.now + length p.0 ≤ length ctxt.old.rest.now)) (λ e. result ≡ Err e) }
 {
-    let mut count: u32 = 0;
+    let mut count: usize = 0;
     let mut have_instructions = false;
     let mark = loop {
         let component = read_component(ctxt)?;
-        lay(components, (at + count) as usize, component);
+        lay(components, at + count, component);
         count += 1;
         have_instructions = marked(have_instructions, component.flags);
         if !has_more(component.flags) {

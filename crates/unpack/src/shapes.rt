@@ -87,7 +87,11 @@ pub(crate) fn read_composite(
     requires { at.components + length streams.old.composites.rest.now < 2 ^ 32 }
     ensures { MatchResult (composite_said boxed (left streams.old)) (λ p. (result ≡ Ok (taken_by boxed p.0)) × (left streams.new ≡ p.1) × (components.new ≡ laid at.components (components_of p.0) components.old) × (instructions.new ≡ laid at.instructions (instructions_of p.0) instructions.old) × (length streams.new.composites.rest.now + length (components_of p.0) ≤ length streams.old.composites.rest.now) × (ends_of p.0 ≡ []) × (points_of p.0 ≡ [])) (λ e. result ≡ Err e) }
 {
-    let (count, mark) = read_components(&mut streams.composites, components, at.components)?;
+    let (count, mark) = read_components(
+        &mut streams.composites,
+        components,
+        at.components as usize,
+    )?;
     let hints = read_marked(
         mark,
         &mut streams.glyphs,
@@ -103,7 +107,7 @@ pub(crate) fn read_composite(
         bbox: Some(bbox),
         ends: 0,
         points: 0,
-        components: count,
+        components: count as u32,
         instructions: hints,
     })
 }
