@@ -1,15 +1,12 @@
 -- A question shows the glyph that is held at its place.
-use Rattle.std.proofs.Common.{◌≡◌, ℕ, zero, suc, ◌+◌, ◌<◌, ◌≤◌, Bool, true, false, ltb, List, [], ◌∷◌, ◌++◌, length, get_or, take, drop, Some, None, vec_items, MatchBool, Option, sym, refl, ap, ◌∙◌, subst, arith, le-ltb, lt-ltb, le-leb, MatchOption}
-use Rattle.std.proofs.lemmas.List.{append_assoc, drop_at, length-append, length-take, take-append-drop, take_at}
-use Rattle.std.proofs.lemmas.Option.{slice_get_past}
+use Rattle.std.proofs.Common.{◌≡◌, ℕ, zero, suc, ◌+◌, ◌<◌, ◌≤◌, Bool, true, false, ltb, List, [], ◌∷◌, ◌++◌, length, take, drop, Some, None, vec_items, MatchBool, Option, sym, refl, ap, ◌∙◌, subst, arith, le-ltb, lt-ltb, le-leb, MatchOption}
+use Rattle.std.proofs.lemmas.List.{append_assoc, drop_at, length-append, take-append-drop, take_at}
 use Rattle.std.specs.List.{slice_get, flat_map}
 use Rattle.glyph.specs.Glyphs.{components_of, ends_of, Glyph, instructions_of, points_of}
 use Rattle.glyph.specs.Records.{behind, needed, part, record_of, records_of, start}
 use Rattle.glyph.specs.declared.lists.GlyphRecord.{GlyphRecord}
 use Rattle.glyph.specs.declared.lists.Lists.{Lists}
-use Rattle.glyph.specs.declared.lists.Part.{Part}
 use Rattle.glyph.specs.declared.places.Places.{Places}
-use Rattle.read.specs.Tests.{both}
 use Rattle.unpack.proofs.Runs.{behind_all, needed_behind}
 use Rattle.forme.specs.Held.{Holds, Shows, ShowsGlyph}
 use Rattle.forme.specs.Views.{Asked, held, inside, parts_inside, Shown, Viewed}

@@ -1,5 +1,5 @@
 -- From what a call answers to what the table spells.
-use Rattle.std.proofs.Common.{◌≡◌, ℕ, Bool, true, false, cond, List, ◌++◌, length, take, Ok, Err, vec_items, Result, sym, refl, ap, ◌∙◌, subst, arith, MatchResult}
+use Rattle.std.proofs.Common.{◌≡◌, ℕ, Bool, true, false, cond, List, length, take, Ok, Err, vec_items, Result, sym, refl, ap, ◌∙◌, arith, MatchResult}
 use Rattle.std.proofs.lemmas.List.{take_at}
 use Rattle.std.specs.List.{flat_map}
 use Rattle.glyph.specs.Causes.{too_short}
@@ -11,7 +11,6 @@ use Rattle.glyph.specs.declared.refusal.Refusal.{Refusal}
 use Rattle.read.specs.Answers.{then}
 use Rattle.unpack.proofs.Runs.{records_length}
 use Rattle.unpack.specs.Glyphs.{table_said, unpacked}
-use Rattle.unpack.specs.Spelled.{Spells}
 use Rattle.spelled.proofs.Tables.{said_is_spelled, spelled_is_said, spelled_once}
 use Rattle.forme.specs.Formes.{unfitted}
 use Rattle.forme.specs.Held.{Holds}

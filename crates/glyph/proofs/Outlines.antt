@@ -1,7 +1,7 @@
 -- The test of a position passes where it is in range.
 use Rattle.std.proofs.Common.{◌≡◌, ℕ, Bool, true, false, T, ℤ, pos, negsuc, ◌≤ℤ◌, refl, arith}
 use lib.Signed.{le_z, le_z_yes}
-use Rattle.read.proofs.Tests.{both_from, both_true}
+use Rattle.read.proofs.Tests.{both_true}
 use Rattle.glyph.specs.Outlines.{InRange, placed}
 
 from_true : (b : Bool) → b ≡ true → T b

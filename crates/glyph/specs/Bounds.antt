@@ -1,5 +1,5 @@
 -- The box around points.
-use Rattle.std.specs.Prelude.{◌≡◌, ◌⊎◌, List, [], ◌∷◌, ℤ, ◌≤ℤ◌, fold}
+use Rattle.std.specs.Prelude.{◌≡◌, ◌⊎◌, List, [], ◌∷◌, ◌≤ℤ◌, fold}
 use Rattle.std.specs.Int.{int_max, int_min}
 use Rattle.std.specs.List.{AllByRecursion as All}
 use Rattle.binary.specs.declared.BoundingBox.{BoundingBox}

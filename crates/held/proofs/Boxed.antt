@@ -1,5 +1,5 @@
 -- The left edge of a glyph that is held is that of its box.
-use Rattle.std.proofs.Common.{◌≡◌, ℕ, zero, suc, List, [], ◌∷◌, length, take, ℤ, Some, None, vec_items, Option, refl, ap, ◌∙◌, arith}
+use Rattle.std.proofs.Common.{◌≡◌, ℕ, zero, suc, List, [], ◌∷◌, length, take, ℤ, Some, vec_items, refl, ap, ◌∙◌, arith}
 use Rattle.std.specs.List.{slice_get}
 use Rattle.binary.specs.declared.BoundingBox.{BoundingBox}
 use Rattle.glyph.specs.Glyphs.{box_of, Glyph}
@@ -8,7 +8,6 @@ use Rattle.glyph.specs.declared.lists.GlyphRecord.{GlyphRecord}
 use Rattle.glyph.specs.declared.lists.Lists.{Lists}
 use Rattle.glyph.specs.declared.places.Places.{Places}
 use Rattle.held.specs.Edges.{edge_of, HeldEdge, left_edge}
-use Rattle.held.specs.Held.{ListsHold}
 
 nth_front : {A : Type 0} (n i : ℕ) (xs : List A) (x : A) → slice_get (take n xs) i ≡ Some x → slice_get xs i ≡ Some x
 nth_front zero i xs x h = let z : ◌≡◌ {A = ℕ} 0 1 = cc in absurd (omega arith)

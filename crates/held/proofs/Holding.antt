@@ -1,10 +1,10 @@
 -- Lists pass the test exactly where they hold glyphs, and they hold at most one list of them.
-use Rattle.std.proofs.Common.{◌≡◌, ℕ, ◌+◌, ◌≤◌, Bool, true, leb, List, [], ◌∷◌, ◌++◌, map, length, take, vec_items, sym, refl, ap, ◌∙◌, subst, arith, le-leb, leb-true}
+use Rattle.std.proofs.Common.{◌≡◌, ℕ, ◌≤◌, Bool, true, leb, List, [], ◌∷◌, map, length, take, vec_items, sym, refl, ap, ◌∙◌, arith, le-leb, leb-true}
 use Rattle.std.proofs.lemmas.List.{length-map, length-take}
 use Rattle.std.specs.List.{flat_map, AllByRecursion as All}
 use Rattle.binary.specs.declared.BoundingBox.{BoundingBox}
 use Rattle.glyph.specs.Glyphs.{box_of, components_of, ends_of, Glyph, instructions_of, kind_of, points_of}
-use Rattle.glyph.specs.Records.{behind, has_room, needed, part, places, record_of, records_of, room_for, start}
+use Rattle.glyph.specs.Records.{behind, part, places, record_of, records_of, start}
 use Rattle.glyph.specs.declared.component.Component.{Component}
 use Rattle.glyph.specs.declared.lists.GlyphKind.{GlyphKind}
 use Rattle.glyph.specs.declared.lists.GlyphRecord.{GlyphRecord}
@@ -13,12 +13,11 @@ use Rattle.glyph.specs.declared.lists.Part.{Part}
 use Rattle.glyph.specs.declared.lists.Point.{Point}
 use Rattle.glyph.specs.declared.places.Places.{Places}
 use Rattle.read.proofs.Tests.{both_from, both_true}
-use Rattle.read.specs.Tests.{both}
 use Rattle.held.specs.Held.{ListsHold, TellsHeld}
 use Rattle.held.specs.Sound.{Sound}
 use Rattle.held.specs.Tests.{cut, glyph_sound, held, lies, parts_lie, past, record_held, records_held}
 use Rattle.held.proofs.Lying.{Lies, lies_join, lies_passes, lies_split, part_lies}
-use Rattle.held.proofs.Rules.{glyph_again, glyph_by, IsGlyph, passed, passes}
+use Rattle.held.proofs.Rules.{glyph_again, glyph_by, passed, passes}
 
 -- Lists of ends, points, components and instructions lie in the caller's lists from `at` on.
 pub record Lie (at : Places) (ls : Lists) (es : List ℕ) (ps : List Point) (cs : List Component) (hs : List ℕ) : Type 0 where

@@ -1,5 +1,5 @@
 -- The tests of a glyph pass exactly where its rules hold.
-use Rattle.std.proofs.Common.{◌≡◌, ℕ, zero, suc, ◌≤◌, Bool, true, false, not, eqb, leb, List, [], ◌∷◌, length, ℤ, pos, negsuc, ◌-ℤ◌, sym, refl, ap, ◌∙◌, arith, eq-eqb, eqb-true, le-leb, leb-true}
+use Rattle.std.proofs.Common.{◌≡◌, ℕ, zero, suc, Bool, true, false, eqb, leb, List, [], ◌∷◌, length, ℤ, pos, negsuc, ◌-ℤ◌, sym, refl, ap, ◌∙◌, arith, eq-eqb, eqb-true, le-leb, leb-true}
 use Rattle.std.proofs.lemmas.List.{nil_from_length}
 use Rattle.std.proofs.lemmas.Bool.{not_from_false, not-true}
 use Rattle.std.specs.List.{AllByRecursion as All}
@@ -14,9 +14,9 @@ use Rattle.glyph.specs.declared.lists.GlyphKind.{GlyphKind}
 use Rattle.glyph.specs.declared.lists.GlyphKind.TheVariants.{Composite, Empty, Simple}
 use Rattle.glyph.specs.declared.lists.Point.{Point}
 use Rattle.read.proofs.Tests.{both_from, both_true}
-use Rattle.read.specs.Tests.{both, either}
-use Rattle.held.specs.Sound.{component_sound, Sound, SoundComposite, SoundSimple, StepsInRange}
-use Rattle.held.specs.Tests.{box_zero, chained_on, each_sound, glyph_sound, is_zero, none, outline_sound, parts_sound, step_fits, steps_fit}
+use Rattle.read.specs.Tests.{either}
+use Rattle.held.specs.Sound.{component_sound, Sound, StepsInRange}
+use Rattle.held.specs.Tests.{box_zero, chained_on, each_sound, glyph_sound, is_zero, none, outline_sound, step_fits, steps_fit}
 
 steps_ok : (last : Point) (ps : List Point) → steps_fit last ps ≡ true → StepsInRange last ps
 steps_ok last [] h = tt

@@ -1,5 +1,5 @@
 -- The rule of the table, tested at each of its rows.
-use Rattle.std.proofs.Common.{◌≡◌, ℕ, zero, suc, ◌+◌, ◌<◌, Bool, true, false, T, eqb, List, [], ◌∷◌, length, get_or, sym, refl, ap, ◌∙◌, subst, add-zero, add-suc, suc-add, zero-add, arith, eqb→eq}
+use Rattle.std.proofs.Common.{◌≡◌, ℕ, zero, suc, ◌+◌, ◌<◌, Bool, true, false, T, eqb, List, [], ◌∷◌, length, get_or, sym, refl, ap, ◌∙◌, add-zero, add-suc, suc-add, zero-add, arith, eqb→eq}
 use Rattle.lut.specs.Rows.{row_of}
 use Rattle.lut.specs.Tested.{alike, ruled, same_row}
 use Rattle.read.specs.Tests.{both}

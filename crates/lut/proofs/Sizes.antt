@@ -1,5 +1,5 @@
 -- A row and its bytes hold the sizes that the rule of the row's group gives.
-use Rattle.std.proofs.Common.{◌≡◌, ℕ, ◌+◌, ◌-◌, ◌*◌, ◌/◌, ◌%◌, ◌^◌, ◌<◌, Bool, true, false, cond, eqb, List, [], ◌∷◌, length, get_or, ap, ◌∙◌, arith}
+use Rattle.std.proofs.Common.{◌≡◌, ℕ, ◌+◌, ◌*◌, ◌/◌, ◌%◌, ◌^◌, ◌<◌, List, length, get_or, ap, ◌∙◌, arith}
 use Rattle.lut.specs.Rows.{number, row_by, x_delta, y_delta}
 use Rattle.lut.specs.declared.table.XYTriplet.{XYTriplet}
 use Rattle.lut.specs.Triplets.{bytes_in, Group, half_bytes, pair_by, sixteen_bits, steps_by, twelve_bits, whole_bytes, x_alone, x_size, y_alone, y_size}

@@ -1,5 +1,5 @@
 -- How a flag and the bytes behind it say a pair of steps. The low seven bits of the flag are the row.
-use Rattle.std.specs.Prelude.{◌≡◌, ℕ, ◌+◌, ◌-◌, ◌*◌, ◌/◌, ◌%◌, ◌≤◌, Bool, true, false, cond, List, [], ◌∷◌, length, take, drop, ℤ, pos, negsuc, neg_ℤ, Ok, Err, MatchBool, Result, ◌==◌, nat_le, nat_lt, slice_index}
+use Rattle.std.specs.Prelude.{◌≡◌, ℕ, ◌+◌, ◌-◌, ◌*◌, ◌/◌, ◌%◌, Bool, false, cond, List, [], ◌∷◌, length, take, drop, ℤ, pos, negsuc, neg_ℤ, Ok, Err, MatchBool, Result, ◌==◌, nat_le, nat_lt, slice_index}
 use Rattle.read.specs.Tests.{both}
 use Rattle.read.specs.declared.error.ParseError.{ParseError}
 use Rattle.read.specs.declared.error.ParseError.TheVariants.{BadEof, BadValue}

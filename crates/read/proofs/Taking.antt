@@ -1,5 +1,5 @@
 -- What a read that was accepted took, and what a read that was refused missed.
-use Rattle.std.proofs.Common.{◌≡◌, ℕ, ◌<◌, ◌≤◌, Bool, true, false, leb, List, length, take, drop, Ok, Err, MatchBool, Result, refl, arith, leb-false, leb-true, MatchResult}
+use Rattle.std.proofs.Common.{◌≡◌, ℕ, ◌<◌, ◌≤◌, Bool, true, false, leb, List, length, take, drop, Ok, Err, MatchBool, Result, refl, arith, leb-false, leb-true}
 use Rattle.read.specs.Reading.{Takes}
 
 module _ {A E : Type 0} (n : ℕ) (Says : A → List ℕ → Type 0) (fault : E) (before after : List ℕ) where

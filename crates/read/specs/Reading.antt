@@ -1,5 +1,5 @@
 -- What a read does to a cursor.
-use Rattle.std.specs.Prelude.{◌≡◌, ℕ, ◌≤◌, List, length, take, drop, Err, MatchBool, Result, MatchResult, nat_le}
+use Rattle.std.specs.Prelude.{◌≡◌, ℕ, List, length, take, drop, Err, MatchBool, Result, MatchResult, nat_le}
 
 -- A read of `n` bytes. Where they are left, it gives a value that they say, and what is left
 -- begins behind them. Where they are not, it is refused, and what is left stays as it was.

@@ -1,5 +1,6 @@
 //! Reports on a small table, cut short at every length, and on headers that contradict themselves.
 #![tactic(auto)]
+
 use report::Report;
 use std::io;
 

@@ -1,5 +1,5 @@
 -- Lists of chosen lengths, every place zero.
-use Rattle.std.specs.Prelude.{◌≡◌, false, [], replicate, pos, vec_items}
+use Rattle.std.specs.Prelude.{◌≡◌, false, replicate, pos, vec_items}
 use Rattle.binary.specs.declared.LongHorMetric.{LongHorMetric}
 use Rattle.glyph.specs.Glyphs.{empty}
 use Rattle.glyph.specs.Records.{record_of, start}

@@ -1,6 +1,5 @@
 -- Flags and steps, and the points that they lead to.
-use Rattle.std.proofs.Common.{◌≡◌, ℕ, suc, ◌%◌, Bool, true, false, cond, T, List, [], ◌∷◌, ◌++◌, length, ℤ, pos, negsuc, ◌+ℤ◌, ◌≤ℤ◌, Ok, Err, sym, refl, ap, ◌∙◌, arith}
-use lib.Signed.{le_z, le_z_yes}
+use Rattle.std.proofs.Common.{◌≡◌, ℕ, suc, ◌%◌, cond, List, [], ◌∷◌, ◌++◌, length, ℤ, ◌+ℤ◌, Ok, Err, sym, refl, ap, ◌∙◌}
 use Rattle.std.proofs.lemmas.List.{append_assoc, append-nil}
 use Rattle.glyph.specs.declared.lists.Point.{Point}
 use Rattle.lut.specs.Triplets.{bytes_in, group_of, steps_said}
@@ -9,7 +8,7 @@ use Rattle.read.specs.Tests.{both}
 use Rattle.read.specs.declared.error.ParseError.TheVariants.{BadValue}
 use Rattle.unpack.specs.Outlines.{point, point_said, points_said, steps}
 use Rattle.glyph.proofs.Outlines.{placed_at, placed_ok}
-use Rattle.glyph.specs.Outlines.{placed, InRange}
+use Rattle.glyph.specs.Outlines.{placed}
 use Rattle.unpack.specs.Spelled.{Leads, LeadsOn}
 use Rattle.spelled.proofs.Fronts.{first_ok, front_at, front_ok, passes_both}
 

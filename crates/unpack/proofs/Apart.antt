@@ -1,7 +1,7 @@
 -- A table that was taken apart.
-use Rattle.std.proofs.Common.{◌≡◌, ℕ, ◌*◌, ◌^◌, ◌<◌, ◌≤◌, Bool, true, false, cond, leb, List, [], length, take, drop, Some, None, Ok, Err, MatchBool, Option, Result, sym, refl, ap, ◌∙◌, subst, arith, MatchResult}
+use Rattle.std.proofs.Common.{◌≡◌, ℕ, ◌*◌, ◌≤◌, Bool, true, false, leb, List, [], length, take, drop, None, Ok, Err, MatchBool, Result, sym, refl, ap, ◌∙◌, subst, arith}
 use Rattle.std.proofs.lemmas.List.{length-drop, length-take}
-use Rattle.glyph.specs.Causes.{at_glyph, no_glyph, refused_at}
+use Rattle.glyph.specs.Causes.{at_glyph, no_glyph}
 use Rattle.glyph.specs.Glyphs.{Glyph}
 use Rattle.glyph.specs.Records.{fitting, ReadInto}
 use Rattle.glyph.specs.declared.lists.Lists.{Lists}
@@ -14,8 +14,8 @@ use Rattle.woff2.specs.Bits.{bits}
 use Rattle.woff2.specs.Transformed.{bitmap_size, boxes_at, composites_at, cut, header_said, Streams, streams_fault, TakenApart}
 use Rattle.woff2.specs.declared.header.GlyfHeader.{GlyfHeader}
 use Rattle.woff2.specs.declared.table.TransformedGlyphTable.{TransformedGlyphTable}
-use Rattle.unpack.specs.Glyphs.{box_bits, glyphs_said, table_said, unless_faulty, unpacked}
-use Rattle.unpack.specs.Rests.{Rest, streams_by, streams_of}
+use Rattle.unpack.specs.Glyphs.{box_bits, glyphs_said, table_said, unpacked}
+use Rattle.unpack.specs.Rests.{streams_of}
 use Rattle.unpack.specs.Runs.{table_bits, table_streams}
 use Rattle.unpack.proofs.Next.{numbered}
 use Rattle.unpack.proofs.Rested.{same_rest}

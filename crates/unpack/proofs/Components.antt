@@ -1,8 +1,8 @@
 -- How the components of a glyph are read, one after the other.
-use Rattle.std.proofs.Common.{◌≡◌, ℕ, suc, ◌+◌, ◌-◌, ◌<◌, ◌≤◌, Bool, true, false, cond, List, [], ◌∷◌, ◌++◌, length, drop, Ok, Err, sym, refl, ap, ◌∙◌, arith, le-leb}
+use Rattle.std.proofs.Common.{◌≡◌, ℕ, suc, ◌+◌, ◌-◌, ◌<◌, ◌≤◌, Bool, true, false, cond, List, [], ◌∷◌, ◌++◌, length, Ok, Err, sym, refl, ap, ◌∙◌, arith, le-leb}
 use borrow.Author.Tests.{lt-leb}
 use Rattle.std.proofs.lemmas.List.{length-drop}
-use Rattle.composite.specs.Components.{argument_size, component_said, component_size, flags_said, has, scale_size}
+use Rattle.composite.specs.Components.{component_said, component_size, flags_said, has}
 use Rattle.glyph.specs.declared.component.Component.{Component}
 use Rattle.read.proofs.Taking.{missed, took}
 use Rattle.read.specs.Reading.{Takes}

@@ -1,5 +1,5 @@
 -- A glyph by its contour count.
-use Rattle.std.proofs.Common.{◌≡◌, ℕ, zero, suc, ◌+◌, ◌<◌, ◌≤◌, Bool, true, List, [], length, take, drop, ℤ, pos, negsuc, ◌<ℤ◌, Ok, Err, Result, sym, refl, ap, ◌∙◌, subst, arith, w16, SFits, to_z, of_z, MatchResult}
+use Rattle.std.proofs.Common.{◌≡◌, ℕ, zero, suc, ◌+◌, ◌<◌, ◌≤◌, Bool, true, List, [], length, take, drop, ℤ, pos, negsuc, ◌<ℤ◌, Ok, Err, Result, sym, refl, ap, ◌∙◌, arith, w16, SFits, to_z, of_z, MatchResult}
 use lib.Signed.{lt_z}
 use Rattle.std.proofs.lemmas.Result.{MatchResult-weaker}
 use Rattle.std.proofs.lemmas.Int.{ints, to_z-of_z}

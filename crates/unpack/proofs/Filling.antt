@@ -1,5 +1,5 @@
 -- Glyphs that were measured, and glyphs that were laid, fill the lists.
-use Rattle.std.proofs.Common.{◌≡◌, ℕ, ◌+◌, ◌*◌, ◌≤◌, Bool, true, false, leb, List, [], ◌∷◌, ◌++◌, length, Ok, Err, vec_items, Result, sym, refl, ap, ◌∙◌, arith, leb-true, MatchResult}
+use Rattle.std.proofs.Common.{◌≡◌, ℕ, ◌+◌, ◌*◌, ◌≤◌, Bool, true, false, leb, List, [], ◌∷◌, ◌++◌, length, Ok, Err, vec_items, Result, sym, refl, ap, ◌∙◌, arith, leb-true}
 use Rattle.std.proofs.lemmas.List.{length_push, length-take}
 use Rattle.std.specs.List.{flat_map}
 use Rattle.glyph.proofs.Lays.{laid_fills}
@@ -7,14 +7,12 @@ use Rattle.glyph.specs.Causes.{at_glyph, too_short}
 use Rattle.glyph.specs.Glyphs.{components_of, ends_of, Glyph, instructions_of, points_of}
 use Rattle.glyph.specs.Laying.{filled, laid}
 use Rattle.glyph.specs.Records.{Fills, fitting, has_room, needed, places, ReadInto, records_of, room_for, start}
-use Rattle.glyph.specs.declared.lists.GlyphRecord.{GlyphRecord}
 use Rattle.glyph.specs.declared.lists.Lists.{Lists}
 use Rattle.glyph.specs.declared.places.Places.{Places}
 use Rattle.glyph.specs.declared.refusal.Refusal.{Refusal}
 use Rattle.read.proofs.Tests.{both_true}
 use Rattle.read.proofs.Thens.{then_accepted}
 use Rattle.read.specs.Answers.{then}
-use Rattle.read.specs.Tests.{both}
 use Rattle.woff2.proofs.Bitmaps.{bits_length}
 use Rattle.woff2.specs.Bits.{bits}
 use Rattle.woff2.specs.declared.table.TransformedGlyphTable.{TransformedGlyphTable}

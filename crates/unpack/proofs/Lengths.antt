@@ -1,5 +1,5 @@
 -- How many values a read gives.
-use Rattle.std.proofs.Common.{◌≡◌, ℕ, zero, suc, ◌+◌, ◌-◌, ltb, leb, List, [], ◌∷◌, ◌++◌, length, Ok, sym, refl, ap, ◌∙◌, arith}
+use Rattle.std.proofs.Common.{◌≡◌, ℕ, zero, suc, ◌+◌, ◌-◌, ltb, leb, List, [], ◌∷◌, ◌++◌, length, Ok, ap, arith}
 use Rattle.std.proofs.lemmas.List.{length_push}
 use Rattle.glyph.specs.declared.lists.Point.{Point}
 use Rattle.read.proofs.Thens.{test_passed, then_accepted}

@@ -1,10 +1,10 @@
 -- One glyph more.
-use Rattle.std.proofs.Common.{◌≡◌, ℕ, zero, suc, ◌+◌, ◌≤◌, Bool, true, false, cond, List, [], ◌∷◌, length, take, drop, ℤ, pos, negsuc, Some, None, Ok, Err, Result, sym, refl, ap, ◌∙◌, arith, le-leb, MatchResult}
+use Rattle.std.proofs.Common.{◌≡◌, ℕ, zero, suc, ◌+◌, ◌≤◌, Bool, true, false, cond, List, [], ◌∷◌, length, ℤ, pos, negsuc, Some, None, Ok, Err, Result, sym, refl, ap, ◌∙◌, arith, le-leb, MatchResult}
 use Rattle.binary.specs.Bytes.{i16_said}
 use Rattle.binary.specs.declared.BoundingBox.{BoundingBox}
 use Rattle.glyph.proofs.Lays.{laid_held, length_laid}
 use Rattle.glyph.specs.Bounds.{bounds}
-use Rattle.glyph.specs.Causes.{at_glyph, refused_at}
+use Rattle.glyph.specs.Causes.{at_glyph}
 use Rattle.glyph.specs.Glyphs.{box_of, components_of, ends_of, Glyph, instructions_of, kind_of, points_of}
 use Rattle.glyph.specs.Laying.{laid}
 use Rattle.glyph.specs.Records.{behind, part, record_of}
@@ -16,9 +16,8 @@ use Rattle.glyph.specs.declared.refusal.Refusal.{Refusal}
 use Rattle.read.proofs.Thens.{then_accepted}
 use Rattle.read.specs.Answers.{front}
 use Rattle.read.specs.declared.error.ParseError.{ParseError}
-use Rattle.read.specs.declared.error.ParseError.TheVariants.{BadIndex, BadValue}
 use Rattle.unpack.specs.Composites.{components_said}
-use Rattle.unpack.specs.Glyphs.{box_or, composite_said, glyph_by, glyph_said, marked_instructions, own_box, past_count, simple_said}
+use Rattle.unpack.specs.Glyphs.{composite_said, glyph_by, glyph_said, marked_instructions, past_count, simple_said}
 use Rattle.unpack.specs.Hints.{instructions_said}
 use Rattle.unpack.specs.Outlines.{ends_said, points_said}
 use Rattle.glyph.specs.Outlines.{origin}

@@ -1,6 +1,6 @@
 -- The glyphs of a table as they are read, one bit of the bitmap after the other.
-use Rattle.std.proofs.Common.{◌≡◌, ℕ, ◌+◌, ◌*◌, ◌<◌, ◌≤◌, Bool, false, List, [], ◌∷◌, ◌++◌, length, get_or, take, drop, Ok, Err, Option, Result, unwrap_or, sym, refl, ap, ◌∙◌, arith, MatchResult}
-use Rattle.std.proofs.lemmas.List.{drop_all, drop_more, get_or-take, length_push, length-take}
+use Rattle.std.proofs.Common.{◌≡◌, ℕ, ◌+◌, ◌*◌, ◌<◌, ◌≤◌, Bool, false, List, [], ◌∷◌, ◌++◌, length, get_or, take, drop, Ok, Err, Option, Result, unwrap_or, sym, ap, ◌∙◌, arith, MatchResult}
+use Rattle.std.proofs.lemmas.List.{drop_more, get_or-take, length_push, length-take}
 use Rattle.std.proofs.lemmas.Option.{slice_get-get_or}
 use Rattle.std.specs.List.{slice_get}
 use Rattle.glyph.specs.Causes.{at_glyph}

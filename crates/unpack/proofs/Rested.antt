@@ -1,5 +1,5 @@
 -- What is left of all streams, and what a glyph takes, from their parts.
-use Rattle.std.proofs.Common.{◌≡◌, ℕ, List, Option, ap, ◌∙◌}
+use Rattle.std.proofs.Common.{◌≡◌, ℕ, List, Option}
 use Rattle.binary.specs.declared.BoundingBox.{BoundingBox}
 use Rattle.glyph.specs.declared.lists.GlyphKind.{GlyphKind}
 use Rattle.unpack.specs.Rests.{Rest}

@@ -1,9 +1,8 @@
 -- Glyphs that were read so far, and one more.
-use Rattle.std.proofs.Common.{◌≡◌, ℕ, suc, ◌+◌, ◌*◌, ◌<◌, ◌≤◌, Bool, List, [], ◌∷◌, ◌++◌, length, get_or, drop, Ok, Err, Result, sym, refl, ap, ◌∙◌, subst, arith, MatchResult}
+use Rattle.std.proofs.Common.{◌≡◌, ℕ, suc, ◌+◌, ◌≤◌, List, [], ◌∷◌, ◌++◌, length, sym, refl, ap, ◌∙◌, arith}
 use Rattle.std.proofs.lemmas.List.{append_assoc, append-nil, length-append}
 use Rattle.std.specs.List.{flat_map}
 use Rattle.glyph.proofs.Lays.{laid_append, laid_more, length_laid}
-use Rattle.glyph.specs.Causes.{at_glyph}
 use Rattle.glyph.specs.Glyphs.{components_of, ends_of, Glyph, instructions_of, points_of}
 use Rattle.glyph.specs.Laying.{laid}
 use Rattle.glyph.specs.Records.{behind, needed, record_of, records_of, start}
@@ -11,9 +10,6 @@ use Rattle.glyph.specs.declared.component.Component.{Component}
 use Rattle.glyph.specs.declared.lists.GlyphRecord.{GlyphRecord}
 use Rattle.glyph.specs.declared.lists.Point.{Point}
 use Rattle.glyph.specs.declared.places.Places.{Places}
-use Rattle.glyph.specs.declared.refusal.Refusal.{Refusal}
-use Rattle.unpack.specs.Glyphs.{glyph_said, glyphs_said}
-use Rattle.unpack.specs.Rests.{Rest}
 use Rattle.unpack.specs.Runs.{RunLaid}
 use Rattle.unpack.specs.Taken.{GlyphLaid}
 

@@ -2,7 +2,7 @@
 use Rattle.std.proofs.Common.{◌≡◌, ℕ, suc, ◌+◌, ◌≤◌, Bool, true, false, cond, List, [], length, take, drop, Some, None, Ok, Err, Option, Result, sym, refl, ap, ◌∙◌, arith, MatchResult}
 use Rattle.binary.specs.declared.BoundingBox.{BoundingBox}
 use Rattle.glyph.specs.Bounds.{bounds}
-use Rattle.glyph.specs.Glyphs.{components_of, composite, ends_of, Glyph, instructions_of, points_of, simple}
+use Rattle.glyph.specs.Glyphs.{components_of, composite, ends_of, instructions_of, points_of, simple}
 use Rattle.glyph.specs.Laying.{laid}
 use Rattle.glyph.specs.declared.lists.GlyphKind.TheVariants.{Composite, Simple}
 use Rattle.glyph.specs.declared.places.Places.{Places}

@@ -1,5 +1,5 @@
 -- The components of a composite glyph, as their stream says them.
-use Rattle.std.specs.Prelude.{ℕ, zero, suc, Bool, true, cond, List, [], ◌∷◌, ◌++◌, length, drop, Ok, Err, Result}
+use Rattle.std.specs.Prelude.{ℕ, zero, suc, Bool, cond, List, [], ◌∷◌, ◌++◌, Ok, Err, Result}
 use Rattle.composite.specs.Components.{component_said, component_size, flags_said, has}
 use Rattle.glyph.specs.declared.component.Component.{Component}
 use Rattle.read.specs.declared.error.ParseError.{ParseError}

@@ -1,5 +1,4 @@
 -- What the cursors of a reader have left.
-use Rattle.std.specs.Prelude.{◌≡◌}
 use Rattle.unpack.specs.Rests.{Rest}
 use Rattle.unpack.specs.declared.streams.Streams.{Streams}
 

@@ -1,7 +1,7 @@
 -- The outline of a simple glyph, as its streams say it.
-use Rattle.std.specs.Prelude.{ℕ, zero, suc, ◌+◌, ◌-◌, ◌%◌, ◌≤◌, cond, List, [], ◌∷◌, ◌++◌, length, ℤ, ◌+ℤ◌, Ok, Err, Result, nat_le, nat_lt}
+use Rattle.std.specs.Prelude.{ℕ, zero, suc, ◌+◌, ◌-◌, ◌%◌, cond, List, [], ◌∷◌, ◌++◌, ℤ, ◌+ℤ◌, Ok, Err, Result, nat_le, nat_lt}
 use Rattle.read.specs.declared.error.ParseError.{ParseError}
-use Rattle.read.specs.declared.error.ParseError.TheVariants.{BadEof, BadValue}
+use Rattle.read.specs.declared.error.ParseError.TheVariants.{BadValue}
 use Rattle.glyph.specs.Outlines.{placed}
 use Rattle.glyph.specs.declared.lists.Point.{Point}
 use Rattle.lut.specs.Triplets.{bytes_in, group_of, steps_said}

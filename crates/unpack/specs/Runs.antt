@@ -1,5 +1,5 @@
 -- Glyphs laid one behind the other.
-use Rattle.std.specs.Prelude.{◌≡◌, ℕ, ◌+◌, ◌≤◌, Bool, List, [], ◌∷◌, length, take, vec_items}
+use Rattle.std.specs.Prelude.{◌≡◌, ℕ, ◌≤◌, Bool, List, length, take, vec_items}
 use Rattle.std.specs.List.{flat_map}
 use Rattle.glyph.specs.Glyphs.{components_of, ends_of, Glyph, instructions_of, points_of}
 use Rattle.glyph.specs.Laying.{laid}

@@ -1,5 +1,5 @@
 -- What a transformed glyf table spells: a relation between bytes and a list of glyphs.
-use Rattle.std.specs.Prelude.{◌≡◌, ℕ, suc, ◌+◌, ◌%◌, ◌<◌, ◌≤◌, Bool, true, false, List, [], ◌∷◌, ◌++◌, map, length, take, ℤ, pos, negsuc, ◌+ℤ◌, Ok}
+use Rattle.std.specs.Prelude.{◌≡◌, ℕ, suc, ◌+◌, ◌%◌, ◌<◌, ◌≤◌, Bool, true, false, List, [], ◌∷◌, ◌++◌, map, length, ℤ, pos, negsuc, ◌+ℤ◌, Ok}
 use Rattle.std.specs.List.{flat_map}
 use Rattle.binary.specs.Bytes.{box_said, i16_said}
 use Rattle.binary.specs.declared.BoundingBox.{BoundingBox}

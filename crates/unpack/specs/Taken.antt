@@ -1,6 +1,5 @@
 -- What a glyph takes of the lists.
 use Rattle.std.specs.Prelude.{◌≡◌, ℕ, ◌+◌, Bool, true, false, cond, List, [], length, take, drop, Some, None, Ok, Option, Result, nat_le}
-use Rattle.binary.specs.Bytes.{box_said}
 use Rattle.binary.specs.declared.BoundingBox.{BoundingBox}
 use Rattle.glyph.specs.Bounds.{bounds}
 use Rattle.glyph.specs.Glyphs.{box_of, components_of, ends_of, Glyph, instructions_of, kind_of, points_of}

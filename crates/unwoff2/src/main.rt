@@ -1,5 +1,6 @@
 //! Reports on a transformed glyf table.
 #![tactic(auto)]
+
 use anyhow::anyhow;
 use report::Report;
 use std::{env, fs};

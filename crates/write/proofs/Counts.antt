@@ -1,5 +1,5 @@
 -- A counter takes whatever there is space for.
-use Rattle.std.proofs.Common.{◌≡◌, ℕ, ◌+◌, ◌≤◌, List, ◌++◌, length, arith}
+use Rattle.std.proofs.Common.{◌≡◌, ℕ, ◌+◌, ◌≤◌, List, length, arith}
 use Rattle.std.proofs.lemmas.List.{length-append}
 use Rattle.write.specs.Meanings.{counter}
 use Rattle.write.specs.Sinks.{Put}

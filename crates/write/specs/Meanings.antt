@@ -1,5 +1,5 @@
 -- Which lists of bytes each of the three sinks stands for.
-use Rattle.std.specs.Prelude.{◌≡◌, ℕ, ◌-◌, List, length, take, vec_items}
+use Rattle.std.specs.Prelude.{◌≡◌, ◌-◌, length, take, vec_items}
 use Rattle.write.specs.Checksums.{checksum}
 use Rattle.write.specs.Sinks.{Meaning}
 use Rattle.write.specs.declared.buffer.WriteBuffer.{WriteBuffer}

@@ -1,5 +1,5 @@
 -- There is space for all values, so each turn writes its own.
-use Rattle.std.proofs.Common.{◌≡◌, ℕ, List, take, refl, ap, subst, arith}
+use Rattle.std.proofs.Common.{refl, subst}
 use Rattle.std.specs.List.{flat_map}
 use Rattle.std.proofs.lemmas.List.{take_all}
 use Rattle.write.specs.Sinks.{Put}

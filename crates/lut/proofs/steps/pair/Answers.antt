@@ -1,8 +1,8 @@
-use Rattle.std.proofs.Common.{◌≡◌, ℕ, Bool, true, false, cond, ℤ, Ok, Err, MatchBool, Result, refl, arith, w16, SFits, rules}
+use Rattle.std.proofs.Common.{◌≡◌, ℕ, Bool, true, false, cond, ℤ, Ok, Err, MatchBool, Result, arith, w16, SFits, rules}
 use Rattle.std.proofs.lemmas.Int.{to_z-of_z}
 use Rattle.read.specs.declared.error.ParseError.{ParseError}
 use Rattle.read.specs.declared.error.ParseError.TheVariants.{BadValue}
-use Rattle.lut.specs.Triplets.{step_fits, step}
+use Rattle.lut.specs.Triplets.{step_fits}
 use Rattle.read.specs.Tests.{both}
 use Rattle.lut.proofs.steps.pair.Goals as goal
 

@@ -1,5 +1,5 @@
 -- A field that is there ends inside the bytes.
-use Rattle.std.proofs.Common.{◌*◌, ◌/◌, ◌<◌, ap, ◌∙◌, subst, arith, rules}
+use Rattle.std.proofs.Common.{◌*◌, ◌/◌, ap, arith, rules}
 use Rattle.read.proofs.Arrays.{ends_inside}
 use Rattle.read.proofs.array.place.Goals as goal
 

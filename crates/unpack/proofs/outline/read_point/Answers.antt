@@ -1,4 +1,4 @@
-use Rattle.std.proofs.Common.{◌≡◌, ◌%◌, ℤ, Err, refl, ap, ◌∙◌, w16, SFits, rules}
+use Rattle.std.proofs.Common.{◌%◌, Err, refl, ap, ◌∙◌, w16, SFits, rules}
 use Rattle.std.proofs.lemmas.Result.{err_from_is_err_and}
 use Rattle.std.proofs.lemmas.Int.{to_z-of_z}
 use Rattle.unpack.proofs.Points.{past_x, past_y, reached, steps_took}

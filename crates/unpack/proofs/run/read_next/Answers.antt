@@ -1,4 +1,4 @@
-use Rattle.std.proofs.Common.{◌≡◌, ◌≤◌, refl, rules}
+use Rattle.std.proofs.Common.{◌≤◌, rules}
 use Rattle.unpack.specs.Cursors.{left}
 use Rattle.unpack.proofs.Next.{next_answer}
 use Rattle.unpack.proofs.run.read_next.Goals as goal

@@ -1,5 +1,4 @@
-use Rattle.std.proofs.Common.{◌≡◌, ℕ, cond, [], length, Ok, Err, sym, refl, ap, ◌∙◌, arith}
-use Rattle.std.proofs.lemmas.List.{length-take-le}
+use Rattle.std.proofs.Common.{◌≡◌, ℕ, length, Err, sym, refl, ap, ◌∙◌, arith}
 use Rattle.std.proofs.lemmas.Result.{err_from_is_err_and}
 use Rattle.glyph.specs.Bounds.{bounds}
 use Rattle.read.proofs.Taking.{taken_when}
@@ -7,8 +6,7 @@ use Rattle.read.proofs.Thens.{front_is}
 use Rattle.unpack.specs.Cursors.{left}
 use Rattle.unpack.specs.Hints.{instructions_said}
 use Rattle.unpack.proofs.Judged.{fault, same_ok, told, when_refused}
-use Rattle.unpack.proofs.Lengths.{ends_length, points_length}
-use Rattle.unpack.proofs.Whole.{box_or_missed, box_or_own, no_box_read, no_hints, simple_answer}
+use Rattle.unpack.proofs.Whole.{box_or_missed, no_box_read, no_hints, simple_answer}
 use Rattle.unpack.proofs.shapes.read_simple.Goals as goal
 
 pub returns-in_err-hints : goal.returns-in_err-hints

@@ -1,4 +1,4 @@
-use Rattle.std.proofs.Common.{◌≡◌, sym, ap, ◌∙◌}
+use Rattle.std.proofs.Common.{sym, ap, ◌∙◌}
 use Rattle.glyph.specs.Records.{needed}
 use Rattle.unpack.proofs.Filling.{as_many, no_room, with_room}
 use Rattle.unpack.proofs.Judged.{same_ok, told}
