@@ -1,7 +1,7 @@
 -- The box around points.
 use Rattle.std.specs.Prelude.{◌≡◌, ◌⊎◌, List, [], ◌∷◌, ◌≤ℤ◌, fold}
 use Rattle.std.specs.Int.{int_max, int_min}
-use Rattle.std.specs.List.{AllByRecursion as All}
+use Rattle.std.specs.List.{AllByRecursion}
 use Rattle.binary.specs.declared.BoundingBox.{BoundingBox}
 use Rattle.glyph.specs.Glyphs.{no_box}
 use Rattle.glyph.specs.declared.lists.Point.{Point}
@@ -17,7 +17,7 @@ Inside b p = (b.x_min ≤ℤ p.x) × (p.x ≤ℤ b.x_max) × (b.y_min ≤ℤ p.y
 -- The box has the least and greatest x and y of the points: every point lies inside, on curve or off, and each side
 -- goes through a point.
 pub record Tight (b : BoundingBox) (ps : List Point) : Type 0 where
-  pub inside : All (Inside b) ps
+  pub inside : AllByRecursion (Inside b) ps
   pub left : Any (λ p. p.x ≡ b.x_min) ps
   pub right : Any (λ p. p.x ≡ b.x_max) ps
   pub bottom : Any (λ p. p.y ≡ b.y_min) ps

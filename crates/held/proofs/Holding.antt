@@ -1,7 +1,7 @@
 -- Lists pass the test exactly where they hold glyphs, and they hold at most one list of them.
 use Rattle.std.proofs.Common.{◌≡◌, ℕ, ◌≤◌, Bool, true, leb, List, [], ◌∷◌, map, length, take, vec_items, sym, refl, ap, ◌∙◌, arith, le-leb, leb-true}
 use Rattle.std.proofs.lemmas.List.{length-map, length-take}
-use Rattle.std.specs.List.{flat_map, AllByRecursion as All}
+use Rattle.std.specs.List.{flat_map, AllByRecursion}
 use Rattle.binary.specs.declared.BoundingBox.{BoundingBox}
 use Rattle.glyph.specs.Glyphs.{box_of, components_of, ends_of, Glyph, instructions_of, kind_of, points_of}
 use Rattle.glyph.specs.Records.{behind, part, places, record_of, records_of, start}
@@ -135,7 +135,7 @@ module _ (ls : Lists) where
       }
 
   -- Records that pass are those of their glyphs.
-  records_passed : (at : Places) (rs : List GlyphRecord) → GlyphsLie at ls [] → records_held at rs ls ≡ true → (rs ≡ records_of at (map glyph_from rs)) × GlyphsLie at ls (map glyph_from rs) × All Sound (map glyph_from rs)
+  records_passed : (at : Places) (rs : List GlyphRecord) → GlyphsLie at ls [] → records_held at rs ls ≡ true → (rs ≡ records_of at (map glyph_from rs)) × GlyphsLie at ls (map glyph_from rs) × AllByRecursion Sound (map glyph_from rs)
   records_passed at [] room h = (refl, room, tt)
   records_passed at (r ∷ rs) room h =
       let g = glyph_from r in
@@ -149,7 +149,7 @@ module _ (ls : Lists) where
       )
 
   -- The records of sound glyphs pass, and say which glyphs they are.
-  records_pass : (at : Places) (gs : List Glyph) → All Sound gs → GlyphsLie at ls gs → (records_held at (records_of at gs) ls ≡ true) × (map glyph_from (records_of at gs) ≡ gs)
+  records_pass : (at : Places) (gs : List Glyph) → AllByRecursion Sound gs → GlyphsLie at ls gs → (records_held at (records_of at gs) ls ≡ true) × (map glyph_from (records_of at gs) ≡ gs)
   records_pass at [] s h = (refl, refl)
   records_pass at (g ∷ gs) s h =
       let k = lie_less at g gs h in

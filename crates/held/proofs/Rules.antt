@@ -2,7 +2,7 @@
 use Rattle.std.proofs.Common.{◌≡◌, ℕ, zero, suc, Bool, true, false, eqb, leb, List, [], ◌∷◌, length, ℤ, pos, negsuc, ◌-ℤ◌, sym, refl, ap, ◌∙◌, arith, eq-eqb, eqb-true, le-leb, leb-true}
 use Rattle.std.proofs.lemmas.List.{nil_from_length}
 use Rattle.std.proofs.lemmas.Bool.{not_from_false, not-true}
-use Rattle.std.specs.List.{AllByRecursion as All}
+use Rattle.std.specs.List.{AllByRecursion}
 use Rattle.binary.specs.declared.BoundingBox.{BoundingBox}
 use Rattle.composite.specs.Chains.{Chained, marked}
 use Rattle.composite.specs.Components.{has}
@@ -48,11 +48,11 @@ chained_at (c ∷ (d ∷ cs)) h =
 abbrev Fits : Component → Type 0
 Fits c = component_sound c ≡ true
 
-each_ok : (cs : List Component) → each_sound cs ≡ true → All Fits cs
+each_ok : (cs : List Component) → each_sound cs ≡ true → AllByRecursion Fits cs
 each_ok [] h = tt
 each_ok (c ∷ cs) h = let b = both_true (component_sound c) (each_sound cs) h in (b.0, each_ok cs b.1)
 
-each_at : (cs : List Component) → All Fits cs → each_sound cs ≡ true
+each_at : (cs : List Component) → AllByRecursion Fits cs → each_sound cs ≡ true
 each_at [] h = refl
 each_at (c ∷ cs) h = both_from (component_sound c) (each_sound cs) h.0 (each_at cs h.1)
 

@@ -1,6 +1,6 @@
 -- The glyphs that lists hold.
 use Rattle.std.specs.Prelude.{◌≡◌, ℕ, Bool, true, List, length, take, vec_items}
-use Rattle.std.specs.List.{flat_map, AllByRecursion as All}
+use Rattle.std.specs.List.{flat_map, AllByRecursion}
 use Rattle.glyph.specs.Glyphs.{components_of, ends_of, Glyph, instructions_of, points_of}
 use Rattle.glyph.specs.Records.{has_room, records_of, start}
 use Rattle.glyph.specs.declared.lists.Lists.{Lists}
@@ -9,7 +9,7 @@ use Rattle.held.specs.Sound.{Sound}
 -- The lists hold `n` glyphs: each by the rules, laid from place 0 on without gaps, at most 16777216 places of a list.
 pub record ListsHold (n : ℕ) (ls : Lists) (gs : List Glyph) : Type 0 where
   pub count : n ≡ length gs
-  pub sound : All Sound gs
+  pub sound : AllByRecursion Sound gs
   pub room : has_room gs ls ≡ true
   pub records : take (length gs) (vec_items ls.records) ≡ records_of start gs
   pub ends : take (length (flat_map ends_of gs)) (vec_items ls.ends) ≡ flat_map ends_of gs

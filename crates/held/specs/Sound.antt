@@ -1,6 +1,6 @@
 -- The rules for a glyph.
 use Rattle.std.specs.Prelude.{◌≡◌, ℕ, ◌≤◌, Bool, true, false, not, List, [], ◌∷◌, length, ◌-ℤ◌, ◌==◌, bit_and}
-use Rattle.std.specs.List.{AllByRecursion as All}
+use Rattle.std.specs.List.{AllByRecursion}
 use Rattle.composite.specs.Chains.{Chained, marked}
 use Rattle.composite.specs.Components.{has}
 use Rattle.glyph.specs.Glyphs.{composite, empty, Glyph, simple}
@@ -50,7 +50,7 @@ component_sound c =
 
 pub record SoundComposite (parts : List Component) (hints : List ℕ) : Type 0 where
   pub chained : Chained parts
-  pub each : All (λ c. component_sound c ≡ true) parts
+  pub each : AllByRecursion (λ c. component_sound c ≡ true) parts
   pub instructions : length hints ≤ 65535
   -- No instructions unless a component has WE_HAVE_INSTRUCTIONS.
   pub unmarked : marked parts ≡ false → hints ≡ []

@@ -3,7 +3,7 @@ use Rattle.std.proofs.Common.{◌≡◌, ℕ, zero, suc, ◌<◌, ◌⊎◌, Lis
 use Rattle.std.proofs.lemmas.Int.{ints}
 use Rattle.std.proofs.ByRecursion.{folded_max_z_bounds, folded_max_z_reached, folded_min_z_bounds, folded_min_z_reached}
 use Rattle.std.specs.Int.{int_max, int_min}
-use Rattle.std.specs.List.{ContainsAt as Has, AllByRecursion as All}
+use Rattle.std.specs.List.{ContainsAt as Has, AllByRecursion}
 use Rattle.binary.specs.declared.BoundingBox.{BoundingBox}
 use Rattle.glyph.specs.Bounds.{Any, bounds, grown, Inside, Tight}
 use Rattle.glyph.specs.declared.lists.Point.{Point}
@@ -27,7 +27,7 @@ through : (f : Point → ℤ) (p : Point) (ps : List Point) (r : ℤ) → (r ≡
 through f p ps r (inl e) = inl (sym e)
 through f p ps r (inr h) = at_place f (p ∷ ps) r h.0 h.1 h.2
 
-inside_all : (b : BoundingBox) (ps : List Point) → All (λ z. b.x_min ≤ℤ z) (map (λ p. p.x) ps) → All (λ z. z ≤ℤ b.x_max) (map (λ p. p.x) ps) → All (λ z. b.y_min ≤ℤ z) (map (λ p. p.y) ps) → All (λ z. z ≤ℤ b.y_max) (map (λ p. p.y) ps) → All (Inside b) ps
+inside_all : (b : BoundingBox) (ps : List Point) → AllByRecursion (λ z. b.x_min ≤ℤ z) (map (λ p. p.x) ps) → AllByRecursion (λ z. z ≤ℤ b.x_max) (map (λ p. p.x) ps) → AllByRecursion (λ z. b.y_min ≤ℤ z) (map (λ p. p.y) ps) → AllByRecursion (λ z. z ≤ℤ b.y_max) (map (λ p. p.y) ps) → AllByRecursion (Inside b) ps
 inside_all b [] h i j k = tt
 inside_all b (p ∷ ps) h i j k = ((h.0, i.0, j.0, k.0), inside_all b ps h.1 i.1 j.1 k.1)
 
@@ -52,7 +52,7 @@ bounds_tight p ps =
     }
 
 -- What holds of all points holds of one that some point is.
-meet : (P Q : Point → Type 0) (ps : List Point) → All P ps → Any Q ps → (p : Point) × P p × Q p
+meet : (P Q : Point → Type 0) (ps : List Point) → AllByRecursion P ps → Any Q ps → (p : Point) × P p × Q p
 meet P Q [] h k = absurd k
 meet P Q (p ∷ ps) h (inl k) = (p, h.0, k)
 meet P Q (p ∷ ps) h (inr k) = meet P Q ps h.1 k
