@@ -3,7 +3,8 @@
 
 use anyhow::anyhow;
 use forme::Forme;
-use report::{Face, RefusalText, Report};
+use listing::{Face, RefusalText};
+use report::Report;
 use room::Room;
 use std::{env, fs};
 use woff2::GlyfHeader;

@@ -2,8 +2,8 @@
 #![tactic(auto)]
 
 use glyph::{Cause, NO_GLYPH, Refusal};
+use listing::RefusalText;
 use read::error::ParseError;
-use report::RefusalText;
 use std::io;
 
 fn show_refusal(rt: &impl Print, cause: Cause, glyph: u16) -> io::Result<()> {

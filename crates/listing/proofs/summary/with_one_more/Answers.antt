@@ -1,8 +1,8 @@
 use Rattle.std.proofs.Common.{◌≡◌, ◌+◌, sym, subst}
-use Rattle.report.specs.Summaries.{added, Within}
-use Rattle.report.specs.declared.summary.Summary.{Summary}
-use Rattle.report.proofs.Steps.{Short, within_more}
-use Rattle.report.proofs.summary.with_one_more.Goals as goal
+use Rattle.listing.specs.Summaries.{added, Within}
+use Rattle.listing.specs.declared.summary.Summary.{Summary}
+use Rattle.listing.proofs.Steps.{Short, within_more}
+use Rattle.listing.proofs.summary.with_one_more.Goals as goal
 
 pub returns : goal.returns
 returns c =

@@ -9,9 +9,9 @@ use Rattle.glyph.specs.declared.lists.GlyphKind.{GlyphKind}
 use Rattle.glyph.specs.declared.lists.GlyphKind.TheVariants.{Composite, Empty, Simple}
 use Rattle.glyph.specs.declared.lists.GlyphRecord.{GlyphRecord}
 use Rattle.glyph.specs.declared.places.Places.{Places}
-use Rattle.report.specs.Summaries.{added, counted, is_composite, is_empty, is_simple, Summed, Within}
-use Rattle.report.specs.declared.summary.Kinds.{Kinds}
-use Rattle.report.specs.declared.summary.Summary.{Summary}
+use Rattle.listing.specs.Summaries.{added, counted, is_composite, is_empty, is_simple, Summed, Within}
+use Rattle.listing.specs.declared.summary.Kinds.{Kinds}
+use Rattle.listing.specs.declared.summary.Summary.{Summary}
 
 abbrev pub nothing : Summary
 nothing = record { kinds = record { empty = 0; simple = 0; composite = 0 }; ends = 0; points = 0; components = 0; instructions = 0 }

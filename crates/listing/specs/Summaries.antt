@@ -6,8 +6,8 @@ use Rattle.glyph.specs.Records.{records_of, start}
 use Rattle.glyph.specs.declared.lists.GlyphKind.{GlyphKind}
 use Rattle.glyph.specs.declared.lists.GlyphKind.TheVariants.{Composite, Empty, Simple}
 use Rattle.glyph.specs.declared.lists.GlyphRecord.{GlyphRecord}
-use Rattle.report.specs.declared.summary.Kinds.{Kinds}
-use Rattle.report.specs.declared.summary.Summary.{Summary}
+use Rattle.listing.specs.declared.summary.Kinds.{Kinds}
+use Rattle.listing.specs.declared.summary.Summary.{Summary}
 
 abbrev pub is_empty : GlyphKind → Bool
 is_empty Empty = true

@@ -1,6 +1,6 @@
 //! Sums over the glyphs of a face.
 ghost use Rattle.std.specs.Prelude.{◌≡◌, ℕ, ◌+◌, ◌^◌, ◌<◌, ◌≤◌, take};
-ghost use Rattle.report.specs.Summaries.{added, counted, Summed, Within};
+ghost use Rattle.listing.specs.Summaries.{added, counted, Summed, Within};
 
 use forme::Forme;
 use glyph::{GlyphKind, GlyphRecord, Lists, Part};

@@ -3,9 +3,9 @@ use Rattle.std.proofs.lemmas.List.{take_all}
 use Rattle.std.proofs.lemmas.List.Sums.{fold_more}
 use Rattle.glyph.specs.Glyphs.{empty}
 use Rattle.glyph.specs.Records.{record_of, start}
-use Rattle.report.specs.Summaries.{added, Summed}
-use Rattle.report.proofs.Steps.{folded_sums, nothing}
-use Rattle.report.proofs.summary.sum.Goals as goal
+use Rattle.listing.specs.Summaries.{added, Summed}
+use Rattle.listing.proofs.Steps.{folded_sums, nothing}
+use Rattle.listing.proofs.summary.sum.Goals as goal
 
 pub loop-record-preserved : goal.loop-record-preserved
 loop-record-preserved c =
