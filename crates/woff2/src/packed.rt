@@ -8,7 +8,14 @@ use binary::{U8, U16Be};
 use read::ReadCtxt;
 use read::error::ParseError;
 
-// The first byte that is no number itself.
+// First bytes that are no number themselves, but say what comes behind them.
+const WORD_CODE: u8 = 253;
+
+const ONE_MORE_BYTE_CODE2: u8 = 254;
+
+const ONE_MORE_BYTE_CODE1: u8 = 255;
+
+// The first number that is not its own first byte.
 const LOWEST_UCODE: u16 = 253;
 
 /// 255UInt16: one to three bytes, by the first.
@@ -21,9 +28,9 @@ impl PackedU16 {
     {
         let mut ahead = *ctxt;
         let value = match ahead.read::<U8>()? {
-            253 => ahead.read::<U16Be>()?,
-            254 => u16::from(ahead.read::<U8>()?) + LOWEST_UCODE * 2,
-            255 => u16::from(ahead.read::<U8>()?) + LOWEST_UCODE,
+            WORD_CODE => ahead.read::<U16Be>()?,
+            ONE_MORE_BYTE_CODE2 => u16::from(ahead.read::<U8>()?) + LOWEST_UCODE * 2,
+            ONE_MORE_BYTE_CODE1 => u16::from(ahead.read::<U8>()?) + LOWEST_UCODE,
             code => u16::from(code),
         };
         *ctxt = ahead;
