@@ -1,6 +1,7 @@
 -- Components, one behind the other.
 use Rattle.std.proofs.Common.{◌≡◌, ℕ, zero, suc, ◌+◌, ◌<◌, ◌≤◌, Bool, true, false, cond, List, [], ◌∷◌, ◌++◌, length, take, drop, Ok, sym, refl, ap, ◌∙◌, arith}
 use Rattle.std.proofs.lemmas.List.{append_assoc, append-nil, drop-append-le, length-append, length-drop, take-append-le}
+use Rattle.read.proofs.Thens.{then_accepted}
 use Rattle.composite.specs.Components.{argument_size, component_by, component_said, component_size, flags_said, has, scale_size}
 use Rattle.glyph.specs.declared.component.Component.{Component}
 use Rattle.read.specs.Answers.{front}
@@ -9,7 +10,7 @@ use Rattle.unpack.proofs.Components.{six}
 use Rattle.unpack.specs.Composites.{component, components_said}
 use Rattle.unpack.specs.Spelled.{Joins, SpellsComponent}
 use Rattle.composite.specs.Chains.{Chained, marked}
-use Rattle.spelled.proofs.Fronts.{first_ok, front_at, front_ok}
+use Rattle.spelled.proofs.Fronts.{front_at, front_ok}
 
 -- What lies inside the first part of a list is the same without what follows.
 inside : (m n : ℕ) (p rest : List ℕ) → m + n ≤ length p → take n (drop m (p ++ rest)) ≡ take n (drop m p)
@@ -40,7 +41,7 @@ same_component p rest l =
 
 component_ok : (bs : List ℕ) (q : Component × List ℕ) → component bs ≡ Ok q → (p : List ℕ) × (bs ≡ p ++ q.1) × SpellsComponent q.0 p
 component_ok bs q e =
-    let f = first_ok (front (component_size (flags_said bs)) bs) (λ (p : List ℕ × List ℕ). Ok (component_said bs, p.1)) q e in
+    let f = then_accepted (front (component_size (flags_said bs)) bs) (λ (p : List ℕ × List ℕ). Ok (component_said bs, p.1)) q e in
     let g = front_ok (component_size (flags_said bs)) bs f.0 f.1 in
     let s : (component_said bs, f.0.1) ≡ q = let w = f.2 in cc in
     let s0 : component_said bs ≡ q.0 = ap (λ (x : Component × List ℕ). x.0) s in
@@ -85,7 +86,7 @@ pub components_ok : (n : ℕ) (cs : List Component) (mark : Bool) (bs : List ℕ
 components_ok zero cs mark bs q e = let z : ◌≡◌ {A = ℕ} 0 1 = cc in absurd (omega arith)
 components_ok (suc n) cs mark bs q e =
     let f =
-    first_ok (component bs)
+    then_accepted (component bs)
     (λ (c : Component × List ℕ).
     cond (has c.0.flags 0x0020) (components_said n (cs ++ c.0 ∷ []) (either mark (has c.0.flags 0x0100)) c.1)
     (Ok (cs ++ c.0 ∷ [], either mark (has c.0.flags 0x0100), c.1)))

@@ -2,37 +2,29 @@
 use Rattle.std.proofs.Common.{◌≡◌, ℕ, ◌<◌, ◌≤◌, Bool, true, false, cond, eqb, leb, List, [], ◌∷◌, ◌++◌, length, get_or, take, drop, Ok, Err, Result, sym, refl, ap, ◌∙◌, arith}
 use Rattle.std.proofs.lemmas.List.{drop_at, length-append, length-take-le, take-append-drop, take_at}
 use Rattle.std.proofs.lemmas.Bool.{le-leb, leb-true}
+use Rattle.read.proofs.Thens.{test_passed, then_accepted}
 use Rattle.read.proofs.Tests.{both_true}
-use Rattle.read.specs.Answers.{front, then}
+use Rattle.read.specs.Answers.{front}
 use Rattle.read.specs.Tests.{both}
 use Rattle.read.specs.declared.error.ParseError.TheVariants.{BadEof}
 use Rattle.unpack.specs.Outlines.{packed}
 use Rattle.woff2.specs.Packed.{packed_said, packed_size, Packs}
 
--- An answer that came of two was accepted twice.
-pub first_ok : {A B E : Type 0} (r : Result A E) (next : A → Result B E) (y : B) → then r next ≡ Ok y → (x : A) × (r ≡ Ok x) × (next x ≡ Ok y)
-first_ok (Ok x) next y e = (x, refl, e)
-first_ok (Err d) next y e = let z : ◌≡◌ {A = ℕ} 0 1 = cc in absurd (omega arith)
-
 -- What a test lets through.
-pub passes : {A E : Type 0} (b : Bool) (r : Result A E) (d : E) (y : A) → cond b r (Err d) ≡ Ok y → (b ≡ true) × (r ≡ Ok y)
-passes true r d y e = (refl, e)
-passes false r d y e = let z : ◌≡◌ {A = ℕ} 0 1 = cc in absurd (omega arith)
-
 pub fails : {A E : Type 0} (b : Bool) (r : Result A E) (d : E) (y : A) → cond b (Err d) r ≡ Ok y → (b ≡ false) × (r ≡ Ok y)
 fails true r d y e = let z : ◌≡◌ {A = ℕ} 0 1 = cc in absurd (omega arith)
 fails false r d y e = (refl, e)
 
 pub passes_both : {A E : Type 0} (a b : Bool) (r : Result A E) (d : E) (y : A) → cond (both a b) r (Err d) ≡ Ok y → (a ≡ true) × (b ≡ true) × (r ≡ Ok y)
 passes_both a b r d y e =
-    let f = passes (both a b) r d y e in
+    let f = test_passed (both a b) r d y e in
     let g = both_true a b f.0 in
     (g.0, g.1, f.1)
 
 -- The first bytes of a stream.
 pub front_ok : (n : ℕ) (bs : List ℕ) (q : List ℕ × List ℕ) → front n bs ≡ Ok q → (length q.0 ≡ n) × (bs ≡ q.0 ++ q.1)
 front_ok n bs q e =
-    let f = passes (leb n (length bs)) (Ok (take n bs, drop n bs)) BadEof q e in
+    let f = test_passed (leb n (length bs)) (Ok (take n bs, drop n bs)) BadEof q e in
     let s : (take n bs, drop n bs) ≡ q = let m = f.1 in cc in
     let a : take n bs ≡ q.0 = ap (λ (p : List ℕ × List ℕ). p.0) s in
     let b : drop n bs ≡ q.1 = ap (λ (p : List ℕ × List ℕ). p.1) s in
@@ -55,7 +47,7 @@ some_bytes false false false = omega arith
 -- A form of a number at the front of a stream.
 pub packed_ok : (bs : List ℕ) (q : ℕ × List ℕ) → packed bs ≡ Ok q → (p : List ℕ) × (bs ≡ p ++ q.1) × Packs q.0 p
 packed_ok bs q e =
-    let f = first_ok (front (packed_size bs) bs) (λ (p : List ℕ × List ℕ). Ok (packed_said p.0, p.1)) q e in
+    let f = then_accepted (front (packed_size bs) bs) (λ (p : List ℕ × List ℕ). Ok (packed_said p.0, p.1)) q e in
     let g = front_ok (packed_size bs) bs f.0 f.1 in
     let v : (packed_said f.0.0, f.0.1) ≡ q = let h = f.2 in cc in
     by f.0.0 f.0.1 g.0 g.1 (ap (λ (x : ℕ × List ℕ). x.0) v) (ap (λ (x : ℕ × List ℕ). x.1) v)

@@ -1,6 +1,7 @@
 -- A glyph, and the piece of the streams that spells it.
 use Rattle.std.proofs.Common.{◌≡◌, ℕ, zero, suc, ◌<◌, Bool, true, false, List, [], ◌∷◌, ◌++◌, length, ℤ, pos, negsuc, Ok, Result, sym, refl, ap, ◌∙◌, subst, arith}
 use Rattle.std.proofs.lemmas.List.{append_assoc, length-append}
+use Rattle.read.proofs.Thens.{then_accepted}
 use Rattle.binary.specs.Bytes.{box_said, i16_said}
 use Rattle.binary.specs.declared.BoundingBox.{BoundingBox}
 use Rattle.glyph.specs.Bounds.{bounds, Tight}
@@ -20,7 +21,7 @@ use Rattle.unpack.specs.Rests.{Rest}
 use Rattle.unpack.specs.Spelled.{Boxes, Hints, Joins, LeadsOn, Piece, Says, Sizes, SpellsComponent, SpellsComposite, SpellsEmpty, SpellsGlyph, SpellsSimple}
 use Rattle.spelled.proofs.Boxes.{bounds_tight, tight_is_bounds}
 use Rattle.spelled.proofs.Components.{components_at, components_ok}
-use Rattle.spelled.proofs.Fronts.{fails, first_ok, front_at, front_ok}
+use Rattle.spelled.proofs.Fronts.{fails, front_at, front_ok}
 use Rattle.spelled.proofs.Hints.{box_at, box_ok, instructions_at, instructions_ok, marked_at, marked_ok}
 use Rattle.spelled.proofs.Points.{flag_each, points_at, points_ok}
 use Rattle.spelled.proofs.Sizes.{ends_at, ends_ok, some_points, sum_after, sum_is_points_in}
@@ -205,11 +206,11 @@ module _ (boxed : Bool) (s : Rest) (q : Glyph × Rest) (count rest : List ℕ) (
   simple_ok : (c : ℕ) → i16_said count ≡ pos (suc c) → simple_said boxed (suc c) (past_count s rest) ≡ Ok q → Spelled boxed s q
   simple_ok c z h =
       let t = past_count s rest in
-      let e = first_ok (ends_said (suc c) [] 0 t.points) (past_ends boxed t) q h in
-      let f = first_ok (front e.0.1 t.flags) (past_flags boxed t e.0) q e.2 in
-      let p = first_ok (points_said f.0.0 [] origin t.glyphs) (past_points boxed t e.0 f.0) q f.2 in
-      let i = first_ok (instructions_said p.0.1 t.instructions) (past_hints boxed t e.0 f.0 p.0) q p.2 in
-      let b = first_ok (box_or boxed (bounds p.0.0) t.boxes) (λ (x : BoundingBox × List ℕ). Ok (simple_whole t e.0 f.0 p.0 i.0 x)) q i.2 in
+      let e = then_accepted (ends_said (suc c) [] 0 t.points) (past_ends boxed t) q h in
+      let f = then_accepted (front e.0.1 t.flags) (past_flags boxed t e.0) q e.2 in
+      let p = then_accepted (points_said f.0.0 [] origin t.glyphs) (past_points boxed t e.0 f.0) q f.2 in
+      let i = then_accepted (instructions_said p.0.1 t.instructions) (past_hints boxed t e.0 f.0 p.0) q p.2 in
+      let b = then_accepted (box_or boxed (bounds p.0.0) t.boxes) (λ (x : BoundingBox × List ℕ). Ok (simple_whole t e.0 f.0 p.0 i.0 x)) q i.2 in
       simple_parts c z e.0 f.0 p.0 i.0 b.0 e.1 f.1 p.1 i.1 b.1 (let m = b.2 in cc)
 
   -- The parts of a composite glyph.
@@ -255,9 +256,9 @@ module _ (boxed : Bool) (s : Rest) (q : Glyph × Rest) (count rest : List ℕ) (
   composite_ok : i16_said count ≡ negsuc 0 → composite_said boxed (past_count s rest) ≡ Ok q → Spelled boxed s q
   composite_ok z h =
       let t = past_count s rest in
-      let c = first_ok (components_said (suc (length t.composites)) [] false t.composites) (past_components boxed t) q h in
-      let i = first_ok (marked_instructions c.0.1 t.glyphs t.instructions) (past_marked boxed t c.0) q c.2 in
-      let b = first_ok (own_box boxed t.boxes) (λ (x : BoundingBox × List ℕ). Ok (composite_whole t c.0 i.0 x)) q i.2 in
+      let c = then_accepted (components_said (suc (length t.composites)) [] false t.composites) (past_components boxed t) q h in
+      let i = then_accepted (marked_instructions c.0.1 t.glyphs t.instructions) (past_marked boxed t c.0) q c.2 in
+      let b = then_accepted (own_box boxed t.boxes) (λ (x : BoundingBox × List ℕ). Ok (composite_whole t c.0 i.0 x)) q i.2 in
       composite_parts z c.0 i.0 b.0 c.1 i.1 b.1 (let m = b.2 in cc)
 
   -- The count of contours tells the kind.
@@ -272,7 +273,7 @@ module _ (boxed : Bool) (s : Rest) (q : Glyph × Rest) (count rest : List ℕ) (
 -- A glyph that was read is spelled by a piece of the streams.
 pub glyph_ok : (boxed : Bool) (s : Rest) (q : Glyph × Rest) → glyph_said boxed s ≡ Ok q → Spelled boxed s q
 glyph_ok boxed s q e =
-    let f = first_ok (front 2 s.contours) (λ (p : List ℕ × List ℕ). glyph_by boxed (i16_said p.0) (past_count s p.1)) q e in
+    let f = then_accepted (front 2 s.contours) (λ (p : List ℕ × List ℕ). glyph_by boxed (i16_said p.0) (past_count s p.1)) q e in
     let g = front_ok 2 s.contours f.0 f.1 in
     kind_ok boxed s q f.0.0 f.0.1 g.0 g.1 (i16_said f.0.0) refl f.2
 

@@ -1,5 +1,6 @@
 -- Instructions and boxes.
 use Rattle.std.proofs.Common.{◌≡◌, ℕ, Bool, true, false, List, [], ◌++◌, length, Ok, sym, refl, ap, ◌∙◌}
+use Rattle.read.proofs.Thens.{then_accepted}
 use Rattle.binary.specs.Bytes.{box_said}
 use Rattle.binary.specs.declared.BoundingBox.{BoundingBox}
 use Rattle.read.specs.Answers.{front, then}
@@ -8,15 +9,15 @@ use Rattle.unpack.specs.Hints.{instructions_said}
 use Rattle.unpack.specs.Outlines.{packed}
 use Rattle.unpack.specs.Spelled.{Hints, Says}
 use Rattle.woff2.specs.Packed.{Packs}
-use Rattle.spelled.proofs.Fronts.{first_ok, front_at, front_ok, packed_at, packed_ok}
+use Rattle.spelled.proofs.Fronts.{front_at, front_ok, packed_at, packed_ok}
 
 module _ (glyphs bytes : List ℕ) (q : List ℕ × List ℕ × List ℕ) where
   -- Instructions that were read: their number packed in the glyph data, and the bytes in their own stream.
   pub instructions_ok : instructions_said glyphs bytes ≡ Ok q → (size : List ℕ) × Packs (length q.0) size × (glyphs ≡ size ++ q.1) × (bytes ≡ q.0 ++ q.2)
   instructions_ok e =
-      let f = first_ok (packed glyphs) (λ (p : ℕ × List ℕ). then (front p.0 bytes) (λ (b : List ℕ × List ℕ). Ok (b.0, p.1, b.1))) q e in
+      let f = then_accepted (packed glyphs) (λ (p : ℕ × List ℕ). then (front p.0 bytes) (λ (b : List ℕ × List ℕ). Ok (b.0, p.1, b.1))) q e in
       let g = packed_ok glyphs f.0 f.1 in
-      let h = first_ok (front f.0.0 bytes) (λ (b : List ℕ × List ℕ). Ok (b.0, f.0.1, b.1)) q f.2 in
+      let h = then_accepted (front f.0.0 bytes) (λ (b : List ℕ × List ℕ). Ok (b.0, f.0.1, b.1)) q f.2 in
       let k = front_ok f.0.0 bytes h.0 h.1 in
       let s : (h.0.0, f.0.1, h.0.1) ≡ q = let w = h.2 in cc in
       let s0 : h.0.0 ≡ q.0 = ap (λ (x : List ℕ × List ℕ × List ℕ). x.0) s in
@@ -48,7 +49,7 @@ module _ (hints glyphs bytes : List ℕ) where
 -- A box of its own.
 pub box_ok : (bs : List ℕ) (q : BoundingBox × List ℕ) → box_front bs ≡ Ok q → (p : List ℕ) × (bs ≡ p ++ q.1) × Says 8 box_said q.0 p
 box_ok bs q e =
-    let f = first_ok (front 8 bs) (λ (p : List ℕ × List ℕ). Ok (box_said p.0, p.1)) q e in
+    let f = then_accepted (front 8 bs) (λ (p : List ℕ × List ℕ). Ok (box_said p.0, p.1)) q e in
     let g = front_ok 8 bs f.0 f.1 in
     let s : (box_said f.0.0, f.0.1) ≡ q = let w = f.2 in cc in
     let s1 : f.0.1 ≡ q.1 = ap (λ (x : BoundingBox × List ℕ). x.1) s in

@@ -2,13 +2,13 @@
 use Rattle.std.proofs.Common.{◌≡◌, ℕ, suc, Bool, List, [], ◌∷◌, ◌++◌, map, length, Ok, Err, Result, sym, refl, ap, ◌∙◌, arith}
 use Rattle.std.proofs.lemmas.List.{append_assoc, append-nil}
 use Rattle.std.specs.List.{flat_map}
+use Rattle.read.proofs.Thens.{then_accepted}
 use Rattle.glyph.specs.Causes.{at_glyph}
 use Rattle.glyph.specs.Glyphs.{Glyph}
 use Rattle.read.specs.declared.error.ParseError.{ParseError}
 use Rattle.unpack.specs.Glyphs.{glyph_said, glyphs_said}
 use Rattle.unpack.specs.Rests.{Rest}
 use Rattle.unpack.specs.Spelled.{Begins, Piece, SpellEach, StreamsBegin}
-use Rattle.spelled.proofs.Fronts.{first_ok}
 use Rattle.spelled.proofs.Glyphs.{Cuts, glyph_at, glyph_ok}
 
 pub at_glyph_ok : {A : Type 0} (i : ℕ) (r : Result A ParseError) (x : A) → at_glyph i r ≡ Ok x → r ≡ Ok x
@@ -51,7 +51,7 @@ glyphs_ok [] gs s all e =
       },
     )
 glyphs_ok (b ∷ bits) gs s all e =
-    let f = first_ok (at_glyph (length gs) (glyph_said b s)) (λ (q : Glyph × Rest). glyphs_said bits (gs ++ q.0 ∷ []) q.1) all e in
+    let f = then_accepted (at_glyph (length gs) (glyph_said b s)) (λ (q : Glyph × Rest). glyphs_said bits (gs ++ q.0 ∷ []) q.1) all e in
     let q = f.0 in
     let g = glyph_ok b s q (at_glyph_ok (length gs) (glyph_said b s) q f.1) in
     let i = glyphs_ok bits (gs ++ q.0 ∷ []) q.1 all f.2 in

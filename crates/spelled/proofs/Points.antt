@@ -1,6 +1,7 @@
 -- Flags and steps, and the points that they lead to.
 use Rattle.std.proofs.Common.{◌≡◌, ℕ, suc, ◌%◌, cond, List, [], ◌∷◌, ◌++◌, length, ℤ, ◌+ℤ◌, Ok, Err, sym, refl, ap, ◌∙◌}
 use Rattle.std.proofs.lemmas.List.{append_assoc, append-nil}
+use Rattle.read.proofs.Thens.{then_accepted}
 use Rattle.glyph.specs.declared.lists.Point.{Point}
 use Rattle.lut.specs.Triplets.{bytes_in, group_of, steps_said}
 use Rattle.read.specs.Answers.{front, then}
@@ -10,14 +11,14 @@ use Rattle.unpack.specs.Outlines.{point, point_said, points_said, steps}
 use Rattle.glyph.proofs.Outlines.{placed_at, placed_ok}
 use Rattle.glyph.specs.Outlines.{placed}
 use Rattle.unpack.specs.Spelled.{Leads, LeadsOn}
-use Rattle.spelled.proofs.Fronts.{first_ok, front_at, front_ok, passes_both}
+use Rattle.spelled.proofs.Fronts.{front_at, front_ok, passes_both}
 
 -- A pair of steps at the front of the glyph data.
 steps_ok : (r : ℕ) (bs : List ℕ) (q : (ℤ × ℤ) × List ℕ) → steps r bs ≡ Ok q → (p : List ℕ) × (bs ≡ p ++ q.1) × (length p ≡ bytes_in (group_of r)) × (steps_said r p ≡ Ok q.0)
 steps_ok r bs q e =
-    let f = first_ok (front (bytes_in (group_of r)) bs) (λ (p : List ℕ × List ℕ). then (steps_said r p.0) (λ (s : ℤ × ℤ). Ok (s, p.1))) q e in
+    let f = then_accepted (front (bytes_in (group_of r)) bs) (λ (p : List ℕ × List ℕ). then (steps_said r p.0) (λ (s : ℤ × ℤ). Ok (s, p.1))) q e in
     let g = front_ok (bytes_in (group_of r)) bs f.0 f.1 in
-    let h = first_ok (steps_said r f.0.0) (λ (s : ℤ × ℤ). Ok (s, f.0.1)) q f.2 in
+    let h = then_accepted (steps_said r f.0.0) (λ (s : ℤ × ℤ). Ok (s, f.0.1)) q f.2 in
     let s : (h.0, f.0.1) ≡ q = let w = h.2 in cc in
     let s0 : h.0 ≡ q.0 = ap (λ (x : (ℤ × ℤ) × List ℕ). x.0) s in
     let s1 : f.0.1 ≡ q.1 = ap (λ (x : (ℤ × ℤ) × List ℕ). x.1) s in
@@ -30,7 +31,7 @@ steps_at r q p rest l e = rw (front_at (bytes_in (group_of r)) p rest l, e)
 point_ok : (last : Point) (f : ℕ) (bs : List ℕ) (q : Point × List ℕ) → point_said last f bs ≡ Ok q → (p : List ℕ) × (bs ≡ p ++ q.1) × Leads last q.0 f p
 point_ok last f bs q e =
     let g =
-    first_ok (steps (f % 128) bs)
+    then_accepted (steps (f % 128) bs)
     (λ (s : (ℤ × ℤ) × List ℕ).
     cond (both (placed (last.x +ℤ s.0.0)) (placed (last.y +ℤ s.0.1)))
     (Ok (point (last.x +ℤ s.0.0) (last.y +ℤ s.0.1) f, s.1)) (Err BadValue))
@@ -70,7 +71,7 @@ points_ok [] ps last bs q e =
     let s0 : ps ≡ q.0 = ap (λ (x : List Point × List ℕ). x.0) s in
     ([], [], sym s0 ∙ sym (append-nil ps), refl, ap (λ (x : List Point × List ℕ). x.1) s, (refl, refl))
 points_ok (f ∷ fs) ps last bs q e =
-    let g = first_ok (point_said last f bs) (λ (s : Point × List ℕ). points_said fs (ps ++ s.0 ∷ []) s.0 s.1) q e in
+    let g = then_accepted (point_said last f bs) (λ (s : Point × List ℕ). points_said fs (ps ++ s.0 ∷ []) s.0 s.1) q e in
     let h = point_ok last f bs g.0 g.1 in
     let i = points_ok fs (ps ++ g.0.0 ∷ []) g.0.0 g.0.1 q g.2 in
     let w : bs ≡ (h.0 ++ i.1) ++ q.1 = h.1 ∙ (ap (λ (x : List ℕ). h.0 ++ x) i.4 ∙ sym (append_assoc h.0 i.1 q.1)) in (

@@ -2,12 +2,13 @@
 use Rattle.std.proofs.Common.{◌≡◌, ℕ, zero, suc, ◌+◌, ◌-◌, ◌<◌, ◌≤◌, cond, ltb, leb, List, [], ◌∷◌, ◌++◌, length, Ok, Err, sym, refl, ap, ◌∙◌, subst, arith}
 use Rattle.std.proofs.lemmas.List.{append_assoc, append-nil}
 use Rattle.std.proofs.lemmas.Bool.{le-leb, leb-true, lt-ltb, ltb-true}
+use Rattle.read.proofs.Thens.{then_accepted}
 use Rattle.read.specs.Tests.{both}
 use Rattle.read.specs.declared.error.ParseError.TheVariants.{BadValue}
 use Rattle.unpack.specs.Outlines.{ends_said, packed}
 use Rattle.unpack.specs.Spelled.{Sizes}
 use Rattle.glyph.specs.Outlines.{points_in}
-use Rattle.spelled.proofs.Fronts.{first_ok, packed_at, packed_ok, passes_both}
+use Rattle.spelled.proofs.Fronts.{packed_at, packed_ok, passes_both}
 
 -- The running sum behind contours that end at the given points.
 abbrev pub sum_after : ℕ → List ℕ → ℕ
@@ -32,7 +33,7 @@ ends_ok zero es sum bs q e =
     ([], [], cc, refl, ap (λ (x : List ℕ × ℕ × List ℕ). x.2) s, refl, sym (ap (λ (x : List ℕ × ℕ × List ℕ). x.1) s))
 ends_ok (suc c) es sum bs q e =
     let f =
-    first_ok (packed bs)
+    then_accepted (packed bs)
     (λ (p : ℕ × List ℕ).
     cond (both (ltb 0 (sum + p.0)) (leb (sum + p.0) 65535)) (ends_said c (es ++ (sum + p.0 - 1) ∷ []) (sum + p.0) p.1)
     (Err BadValue))

@@ -3,6 +3,7 @@ use Rattle.std.proofs.Common.{◌≡◌, ℕ, ◌≤◌, Bool, leb, List, [], le
 use Rattle.std.proofs.lemmas.List.{length-drop, length-take}
 use Rattle.std.proofs.lemmas.Bool.{le-leb, leb-true}
 use Rattle.std.proofs.lemmas.Bool.Decides.{nat_tests}
+use Rattle.read.proofs.Thens.{test_passed}
 use Rattle.glyph.specs.Causes.{no_glyph, refused_at}
 use Rattle.glyph.specs.Glyphs.{Glyph}
 use Rattle.glyph.specs.declared.refusal.Refusal.{Refusal}
@@ -16,7 +17,6 @@ use Rattle.woff2.proofs.Streams.{no_fault}
 use Rattle.woff2.specs.Bits.{bits}
 use Rattle.woff2.specs.Transformed.{bitmap_size, boxes_at, cut, header_said, streams_end, streams_fault}
 use Rattle.woff2.specs.declared.header.GlyfHeader.{GlyfHeader}
-use Rattle.spelled.proofs.Fronts.{passes}
 use Rattle.spelled.proofs.Lists.{glyphs_at, glyphs_ok}
 
 -- Where all streams lie inside the table and the bitmap inside the boxes, nothing is wrong.
@@ -43,7 +43,7 @@ pub said_is_spelled : (bs : List ℕ) (gs : List Glyph) → table_said bs ≡ Ok
 said_is_spelled bs gs e =
     let h = header_said bs in
     let said = glyphs_said (box_bits h bs) [] (streams_of bs) in
-    let a = passes (leb 36 (length bs)) (unless_faulty (streams_fault h (length bs)) said) (refused_at no_glyph BadEof) gs e in
+    let a = test_passed (leb 36 (length bs)) (unless_faulty (streams_fault h (length bs)) said) (refused_at no_glyph BadEof) gs e in
     let f = faultless (streams_fault h (length bs)) said gs a.1 in
     let sound = no_fault h (length bs) f.0 in
     let g = glyphs_ok (box_bits h bs) [] (streams_of bs) gs f.1 in

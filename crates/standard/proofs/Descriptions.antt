@@ -2,6 +2,7 @@
 use Rattle.std.proofs.Common.{◌≡◌, ℕ, suc, ◌<◌, Bool, false, List, [], ◌++◌, map, length, ℤ, pos, negsuc, Ok, Result, sym, refl, ap, ◌∙◌, subst, arith}
 use Rattle.std.proofs.lemmas.List.{append_assoc, length-append, length-map}
 use Rattle.std.specs.List.{flat_map}
+use Rattle.read.proofs.Thens.{then_accepted}
 use Rattle.binary.specs.Bytes.{box_said, i16_said, u16_said}
 use Rattle.binary.specs.declared.BoundingBox.{BoundingBox}
 use Rattle.glyph.specs.Glyphs.{composite, empty, Glyph, simple}
@@ -10,7 +11,6 @@ use Rattle.glyph.specs.declared.lists.Point.{Point}
 use Rattle.read.specs.Answers.{then}
 use Rattle.read.specs.declared.error.ParseError.{ParseError}
 use Rattle.spelled.proofs.Components.{components_at, components_ok}
-use Rattle.spelled.proofs.Fronts.{first_ok}
 use Rattle.unpack.specs.Composites.{components_said}
 use Rattle.glyph.specs.Outlines.{origin, points_in}
 use Rattle.composite.specs.Chains.{Chained, marked}
@@ -109,12 +109,12 @@ module _ (all count corners bs : List ℕ) (box : BoundingBox) (l : length count
 
   outline_ok : (c : ℕ) (q : Glyph × List ℕ) → i16_said count ≡ pos c → outline_said c box bs ≡ Ok q → Described all q
   outline_ok c q z h =
-      let e = first_ok (end_points_said c [] bs) (past_ends box) q h in
-      let i = first_ok (sized_hints e.0.1) (past_hints box e.0) q e.2 in
+      let e = then_accepted (end_points_said c [] bs) (past_ends box) q h in
+      let i = then_accepted (sized_hints e.0.1) (past_hints box e.0) q e.2 in
       let n = points_in e.0.0 in
-      let f = first_ok (point_flags_said n n [] i.0.1) (past_flags box e.0 i.0) q i.2 in
-      let x = first_ok (x_steps_said f.0.0 [] f.0.1) (past_xs box e.0 i.0 f.0) q f.2 in
-      let p = first_ok (positions_said f.0.0 x.0.0 [] origin x.0.1) (λ (y : List Point × List ℕ). Ok (simple_whole box e.0 i.0 y)) q x.2 in
+      let f = then_accepted (point_flags_said n n [] i.0.1) (past_flags box e.0 i.0) q i.2 in
+      let x = then_accepted (x_steps_said f.0.0 [] f.0.1) (past_xs box e.0 i.0 f.0) q f.2 in
+      let p = then_accepted (positions_said f.0.0 x.0.0 [] origin x.0.1) (λ (y : List Point × List ℕ). Ok (simple_whole box e.0 i.0 y)) q x.2 in
       let s : simple_whole box e.0 i.0 p.0 ≡ q = let m = p.2 in cc in
       subst (Described all) s (simple_parts c z e.0 i.0 f.0 x.0 p.0 e.1 i.1 f.1 x.1 p.1)
 
@@ -144,8 +144,8 @@ module _ (all count corners bs : List ℕ) (box : BoundingBox) (l : length count
 
   parts_ok : (below : ℕ) (q : Glyph × List ℕ) → i16_said count ≡ negsuc below → parts_said box bs ≡ Ok q → Described all q
   parts_ok below q z h =
-      let c = first_ok (components_said (suc (length bs)) [] false bs) (past_components box) q h in
-      let i = first_ok (hints_if c.0.1 c.0.2) (λ (y : List ℕ × List ℕ). Ok (composite_whole box c.0 y)) q c.2 in
+      let c = then_accepted (components_said (suc (length bs)) [] false bs) (past_components box) q h in
+      let i = then_accepted (hints_if c.0.1 c.0.2) (λ (y : List ℕ × List ℕ). Ok (composite_whole box c.0 y)) q c.2 in
       let s : composite_whole box c.0 i.0 ≡ q = let m = i.2 in cc in
       subst (Described all) s (composite_parts below z c.0 i.0 c.1 i.1)
 
@@ -157,10 +157,10 @@ module _ (all count corners bs : List ℕ) (box : BoundingBox) (l : length count
 pub description_ok : (bs : List ℕ) (q : Glyph × List ℕ) → description_said bs ≡ Ok q → Described bs q
 description_ok bs q e =
     let c =
-    first_ok (field_said 2 i16_said bs)
+    then_accepted (field_said 2 i16_said bs)
     (λ (x : ℤ × List ℕ). then (field_said 8 box_said x.1) (λ (y : BoundingBox × List ℕ). kind_said x.0 y.0 y.1)) q e
     in
-    let b = first_ok (field_said 8 box_said c.0.1) (λ (y : BoundingBox × List ℕ). kind_said c.0.0 y.0 y.1) q c.2 in
+    let b = then_accepted (field_said 8 box_said c.0.1) (λ (y : BoundingBox × List ℕ). kind_said c.0.0 y.0 y.1) q c.2 in
     by c.0 b.0 (field_ok 2 i16_said bs c.0 c.1) (field_ok 8 box_said c.0.1 b.0 b.1) b.2
   where
     by : (c : ℤ × List ℕ) (b : BoundingBox × List ℕ) → (p : List ℕ) × (bs ≡ p ++ c.1) × Says 2 i16_said c.0 p → (p : List ℕ) × (c.1 ≡ p ++ b.1) × Says 8 box_said b.0 p → kind_said c.0 b.0 b.1 ≡ Ok q → Described bs q

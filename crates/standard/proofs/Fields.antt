@@ -1,10 +1,11 @@
 -- Fields at the front of a list of bytes.
 use Rattle.std.proofs.Common.{◌≡◌, ℕ, zero, suc, ◌*◌, ◌≤◌, Bool, true, false, List, [], ◌∷◌, ◌++◌, length, take, drop, Ok, sym, refl, ap, ◌∙◌, suc-mul, zero-mul, arith}
 use Rattle.std.proofs.lemmas.List.{append_assoc, append-nil, drop_at, length-append, length-drop, length-take-le, nil_from_length, take-append-drop, take_at}
+use Rattle.read.proofs.Thens.{then_accepted}
 use Rattle.binary.specs.Bytes.{u16_said}
 use Rattle.read.specs.Answers.{front}
 use Rattle.read.specs.Arrays.{fields_of}
-use Rattle.spelled.proofs.Fronts.{first_ok, front_at, front_ok}
+use Rattle.spelled.proofs.Fronts.{front_at, front_ok}
 use Rattle.unpack.specs.Spelled.{Joins, Says}
 use Rattle.standard.specs.Said.{end_points_said, field_said, hints_if, sized_hints}
 use Rattle.standard.specs.Told.{TellsHints}
@@ -20,7 +21,7 @@ module _ {A : Type 0} (n : ℕ) (said : List ℕ → A) where
   -- A field that was read.
   pub field_ok : (bs : List ℕ) (q : A × List ℕ) → field_said n said bs ≡ Ok q → (p : List ℕ) × (bs ≡ p ++ q.1) × Says n said q.0 p
   field_ok bs q e =
-      let f = first_ok (front n bs) (λ (p : List ℕ × List ℕ). Ok (said p.0, p.1)) q e in
+      let f = then_accepted (front n bs) (λ (p : List ℕ × List ℕ). Ok (said p.0, p.1)) q e in
       let g = front_ok n bs f.0 f.1 in
       let s : (said f.0.0, f.0.1) ≡ q = let w = f.2 in cc in
       let s1 : f.0.1 ≡ q.1 = ap (λ (x : A × List ℕ). x.1) s in
@@ -65,7 +66,7 @@ ends_ok zero es bs q e =
     let s0 : es ≡ q.0 = ap (λ (x : List ℕ × List ℕ). x.0) s in
     ([], [], sym s0 ∙ sym (append-nil es), refl, ap (λ (x : List ℕ × List ℕ). x.1) s, refl)
 ends_ok (suc c) es bs q e =
-    let f = first_ok (field_said 2 u16_said bs) (λ (p : ℕ × List ℕ). end_points_said c (es ++ p.0 ∷ []) p.1) q e in
+    let f = then_accepted (field_said 2 u16_said bs) (λ (p : ℕ × List ℕ). end_points_said c (es ++ p.0 ∷ []) p.1) q e in
     let v = f.0.0 in
     let g = field_ok 2 u16_said bs f.0 f.1 in
     let i = ends_ok c (es ++ v ∷ []) f.0.1 q f.2 in (
@@ -90,7 +91,7 @@ ends_at (v ∷ new) es p rest h =
 -- Instructions that were read behind their number.
 pub sized_ok : (bs : List ℕ) (q : List ℕ × List ℕ) → sized_hints bs ≡ Ok q → (size : List ℕ) × (bs ≡ size ++ (q.0 ++ q.1)) × Says 2 u16_said (length q.0) size
 sized_ok bs q e =
-    let f = first_ok (field_said 2 u16_said bs) (λ (n : ℕ × List ℕ). front n.0 n.1) q e in
+    let f = then_accepted (field_said 2 u16_said bs) (λ (n : ℕ × List ℕ). front n.0 n.1) q e in
     let g = field_ok 2 u16_said bs f.0 f.1 in
     let h = front_ok f.0.0 f.0.1 q f.2 in
     (g.0, g.1 ∙ ap (λ (x : List ℕ). g.0 ++ x) h.1, (g.2.0, g.2.1 ∙ sym h.0))

@@ -3,11 +3,11 @@ use Rattle.std.proofs.Common.{◌≡◌, ℕ, zero, suc, ◌+◌, ◌-◌, ◌�
 use Rattle.std.proofs.lemmas.List.{append_assoc, append-nil, length-append, length-replicate}
 use Rattle.std.proofs.lemmas.Bool.{le-leb, leb-true}
 use Rattle.std.specs.List.{flat_map}
+use Rattle.read.proofs.Thens.{test_passed, then_accepted}
 use Rattle.binary.specs.Bytes.{u8_said}
 use Rattle.composite.specs.Components.{has}
 use Rattle.read.specs.Answers.{then}
 use Rattle.read.specs.declared.error.ParseError.TheVariants.{BadValue}
-use Rattle.spelled.proofs.Fronts.{first_ok, passes}
 use Rattle.unpack.specs.Spelled.{Joins, Says}
 use Rattle.standard.specs.Fields.{run, Run, run_flags}
 use Rattle.standard.specs.Said.{copies_said, field_said, point_flags_said, run_said}
@@ -38,12 +38,12 @@ byte_first v bs p q rest more e h f = rw (e, one_byte v p h, f)
 run_ok : (bs : List ℕ) (q : Run × List ℕ) → run_said bs ≡ Ok q → Found bs q
 run_ok bs q e =
     let f =
-    first_ok (field_said 1 u8_said bs)
+    then_accepted (field_said 1 u8_said bs)
     (λ (x : ℕ × List ℕ). then (copies_said (has x.0 0x08) x.1) (λ (c : ℕ × List ℕ). Ok (run x.0 c.0, c.1))) q e
     in
     let v = f.0.0 in
     let g = field_ok 1 u8_said bs f.0 f.1 in
-    let h = first_ok (copies_said (has v 0x08) f.0.1) (λ (c : ℕ × List ℕ). Ok (run v c.0, c.1)) q f.2 in
+    let h = then_accepted (copies_said (has v 0x08) f.0.1) (λ (c : ℕ × List ℕ). Ok (run v c.0, c.1)) q f.2 in
     let k = copies_ok (has v 0x08) v f.0.1 h.0 h.1 in
     let w = byte_first v bs g.0 k.0 f.0.1 h.0.1 g.1 g.2 k.1 in
     let s : (run v h.0.0, h.0.1) ≡ q = let m = h.2 in cc in
@@ -88,7 +88,7 @@ flags_ok zero (suc left) fs bs q e = let z : ◌≡◌ {A = ℕ} 0 1 = cc in abs
 flags_ok (suc n) zero fs bs q e = none_left fs bs q (cc)
 flags_ok (suc n) (suc left) fs bs q e =
     let f =
-    first_ok (run_said bs)
+    then_accepted (run_said bs)
     (λ (r : Run × List ℕ).
     cond (leb r.0.copies left) (point_flags_said n (left - r.0.copies) (fs ++ run_flags r.0) r.1)
     (Err BadValue))
@@ -96,7 +96,7 @@ flags_ok (suc n) (suc left) fs bs q e =
     in
     let r = f.0.0 in
     let g = run_ok bs f.0 f.1 in
-    let h = passes (leb r.copies left) (point_flags_said n (left - r.copies) (fs ++ run_flags r) f.0.1) BadValue q f.2 in
+    let h = test_passed (leb r.copies left) (point_flags_said n (left - r.copies) (fs ++ run_flags r) f.0.1) BadValue q f.2 in
     let fit = leb-true r.copies left h.0 in
     let i = flags_ok n (left - r.copies) (fs ++ run_flags r) f.0.1 q h.1 in
     let l = run_length r (flat_map run_flags i.0) in

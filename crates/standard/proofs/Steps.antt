@@ -1,10 +1,11 @@
 -- Steps along each axis, and the points that they lead to.
 use Rattle.std.proofs.Common.{◌≡◌, ℕ, cond, List, [], ◌∷◌, ◌++◌, map, ℤ, ◌+ℤ◌, Ok, Err, sym, refl, ap, ◌∙◌, subst}
 use Rattle.std.proofs.lemmas.List.{append_assoc, append-nil}
+use Rattle.read.proofs.Thens.{then_accepted}
 use Rattle.glyph.specs.declared.lists.Point.{Point}
 use Rattle.read.specs.Tests.{both}
 use Rattle.read.specs.declared.error.ParseError.TheVariants.{BadValue}
-use Rattle.spelled.proofs.Fronts.{first_ok, passes_both}
+use Rattle.spelled.proofs.Fronts.{passes_both}
 use Rattle.glyph.proofs.Outlines.{placed_at, placed_ok}
 use Rattle.glyph.specs.Outlines.{placed, InRange}
 use Rattle.unpack.specs.Spelled.{Joins, Says}
@@ -28,7 +29,7 @@ xs_ok [] ds bs q e =
     let s0 : ds ≡ q.0 = ap (λ (x : List ℤ × List ℕ). x.0) s in
     ([], [], sym s0 ∙ sym (append-nil ds), ap (λ (x : List ℤ × List ℕ). x.1) s, refl)
 xs_ok (f ∷ fs) ds bs q e =
-    let g = first_ok (field_said (x_step_size f) (x_step_said f) bs) (λ (p : ℤ × List ℕ). x_steps_said fs (ds ++ p.0 ∷ []) p.1) q e in
+    let g = then_accepted (field_said (x_step_size f) (x_step_said f) bs) (λ (p : ℤ × List ℕ). x_steps_said fs (ds ++ p.0 ∷ []) p.1) q e in
     let d = g.0.0 in
     let h = field_ok (x_step_size f) (x_step_said f) bs g.0 g.1 in
     let i = xs_ok fs (ds ++ d ∷ []) g.0.1 q g.2 in (
@@ -64,7 +65,7 @@ pub record Follows (last : Point) (f : ℕ) (dx : ℤ) (bs : List ℕ) (q : Poin
 position_ok : (last : Point) (f : ℕ) (dx : ℤ) (bs : List ℕ) (q : Point × List ℕ) → position_said last f dx bs ≡ Ok q → Follows last f dx bs q
 position_ok last f dx bs q e =
     let g =
-    first_ok (field_said (y_step_size f) (y_step_said f) bs)
+    then_accepted (field_said (y_step_size f) (y_step_said f) bs)
     (λ (p : ℤ × List ℕ).
     cond (both (placed (last.x +ℤ dx)) (placed (last.y +ℤ p.0))) (Ok (next_point last f dx p.0, p.1))
     (Err BadValue))
@@ -121,7 +122,7 @@ positions_ok [] [] xs ps last bs q t e =
 positions_ok [] (d ∷ ds) xs ps last bs q t e = absurd t
 positions_ok (f ∷ fs) [] xs ps last bs q t e = absurd t
 positions_ok (f ∷ fs) (d ∷ ds) xs ps last bs q t e =
-    let g = first_ok (position_said last f d bs) (λ (s : Point × List ℕ). positions_said fs ds (ps ++ s.0 ∷ []) s.0 s.1) q e in
+    let g = then_accepted (position_said last f d bs) (λ (s : Point × List ℕ). positions_said fs ds (ps ++ s.0 ∷ []) s.0 s.1) q e in
     let next = g.0.0 in
     let h = position_ok last f d bs g.0 g.1 in
     let i = positions_ok fs ds t.1 (ps ++ next ∷ []) next g.0.1 q t.4 g.2 in

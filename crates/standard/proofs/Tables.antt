@@ -2,6 +2,7 @@
 use Rattle.std.proofs.Common.{◌≡◌, ℕ, suc, ◌*◌, ◌<◌, Bool, true, false, cond, eqb, ltb, List, [], ◌∷◌, ◌++◌, length, get_or, take, drop, Ok, Err, Result, sym, refl, ap, ◌∙◌, subst, arith}
 use Rattle.std.proofs.lemmas.List.{append_assoc, append-nil}
 use Rattle.std.proofs.lemmas.Bool.{eq-eqb, eqb-true, lt-ltb, ltb-true, ne_eqb}
+use Rattle.read.proofs.Thens.{test_passed, then_accepted}
 use Rattle.glyph.specs.Causes.{at_glyph, no_glyph, refused_at}
 use Rattle.glyph.specs.Glyphs.{composite, empty, Glyph, simple}
 use Rattle.glyph.specs.declared.refusal.Refusal.{Refusal}
@@ -10,7 +11,7 @@ use Rattle.read.specs.Answers.{front, then}
 use Rattle.read.specs.Tests.{both}
 use Rattle.read.specs.declared.error.ParseError.{ParseError}
 use Rattle.read.specs.declared.error.ParseError.TheVariants.{BadIndex, BadOffset}
-use Rattle.spelled.proofs.Fronts.{first_ok, front_at, front_ok, passes, passes_both}
+use Rattle.spelled.proofs.Fronts.{front_at, front_ok, passes_both}
 use Rattle.spelled.proofs.Lists.{at_glyph_ok}
 use Rattle.unpack.specs.Spelled.{Begins}
 use Rattle.standard.specs.Fields.{between, offset_said, offset_size}
@@ -51,7 +52,7 @@ module _ (glyf : List ℕ) (start end : ℕ) where
       by false m h =
           let said = then (description_said (between start end glyf)) (λ (p : Glyph × List ℕ). Ok p.0) in
           let t = passes_both (ltb start end) (ltb start (length glyf)) said BadOffset g h in
-          let f = first_ok (description_said (between start end glyf)) (λ (p : Glyph × List ℕ). Ok p.0) g t.2 in
+          let f = then_accepted (description_said (between start end glyf)) (λ (p : Glyph × List ℕ). Ok p.0) g t.2 in
           let s : f.0.0 ≡ g = let k = f.2 in cc in
           let d = description_ok (between start end glyf) f.0 f.1 in
           let low = ltb-true start end t.0 in
@@ -72,7 +73,7 @@ entries_ok glyf start [] gs all e =
     let s : gs ≡ all = cc in
     ([], sym s ∙ sym (append-nil gs), tt)
 entries_ok glyf start (end ∷ ends) gs all e =
-    let f = first_ok (at_glyph (length gs) (entry_said glyf start end)) (λ (g : Glyph). entries_said glyf end ends (gs ++ g ∷ [])) all e in
+    let f = then_accepted (at_glyph (length gs) (entry_said glyf start end)) (λ (g : Glyph). entries_said glyf end ends (gs ++ g ∷ [])) all e in
     let g = f.0 in
     let h = entry_ok glyf start end g (at_glyph_ok (length gs) (entry_said glyf start end) g f.1) in
     let i = entries_ok glyf end ends (gs ++ g ∷ []) all f.2 in
@@ -100,7 +101,7 @@ module _ (glyf : List ℕ) (n : ℕ) (long : Bool) where
   offsets_ok loca bytes rest gs l w e =
       let start = offset_said long (take (offset_size long) bytes) in
       let ends = offsets_said long n (drop (offset_size long) bytes) in
-      let t = passes (ltb 0 n) (entries_said glyf start ends []) (refused_at no_glyph BadIndex) gs e in
+      let t = test_passed (ltb 0 n) (entries_said glyf start ends []) (refused_at no_glyph BadIndex) gs e in
       let i = entries_ok glyf start ends [] gs t.1 in
       record {
         some = ltb-true 0 n t.0;
@@ -117,7 +118,7 @@ module _ (glyf : List ℕ) (n : ℕ) (long : Bool) where
 pub said_is_told : (glyf loca : List ℕ) (n : ℕ) (long : Bool) (gs : List Glyph) → standard_said glyf loca n long ≡ Ok gs → Tells glyf loca n long gs
 said_is_told glyf loca n long gs e =
     let size = suc n * offset_size long in
-    let f = first_ok (at_glyph no_glyph (front size loca)) (past_loca glyf n long) gs e in
+    let f = then_accepted (at_glyph no_glyph (front size loca)) (past_loca glyf n long) gs e in
     let g = front_ok size loca f.0 (at_glyph_ok no_glyph (front size loca) f.0 f.1) in
     offsets_ok glyf n long loca f.0.0 f.0.1 gs g.0 g.1 f.2
 
