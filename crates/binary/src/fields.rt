@@ -12,7 +12,9 @@ use read::ReadUnchecked;
 impl ReadUnchecked for U8 {
     type HostType = u8;
 
-    ghost size = { 1 };
+    const SIZE: usize = size::U8;
+
+    ghost SIZE = { 1 };
 
     ghost good = { λ v. v < 2 ^ 8 };
 
@@ -28,10 +30,6 @@ impl ReadUnchecked for U8 {
 
     ghost some = { Prim.search rules };
 
-    fn size() -> usize {
-        size::U8
-    }
-
     fn read_unchecked(bytes: &[u8]) -> u8 {
         u8::from_be_bytes([bytes[0]])
     }
@@ -40,7 +38,9 @@ impl ReadUnchecked for U8 {
 impl ReadUnchecked for I8 {
     type HostType = i8;
 
-    ghost size = { 1 };
+    const SIZE: usize = size::I8;
+
+    ghost SIZE = { 1 };
 
     ghost good = { λ v. FitsSigned w8 v };
 
@@ -56,10 +56,6 @@ impl ReadUnchecked for I8 {
 
     ghost some = { Prim.search rules };
 
-    fn size() -> usize {
-        size::I8
-    }
-
     fn read_unchecked(bytes: &[u8]) -> i8 {
         i8::from_be_bytes([bytes[0]])
     }
@@ -68,7 +64,9 @@ impl ReadUnchecked for I8 {
 impl ReadUnchecked for U16Be {
     type HostType = u16;
 
-    ghost size = { 2 };
+    const SIZE: usize = size::U16;
+
+    ghost SIZE = { 2 };
 
     ghost good = { λ v. v < 2 ^ 16 };
 
@@ -84,10 +82,6 @@ impl ReadUnchecked for U16Be {
 
     ghost some = { Prim.search rules };
 
-    fn size() -> usize {
-        size::U16
-    }
-
     fn read_unchecked(bytes: &[u8]) -> u16 {
         let [hi, lo] = [bytes[0], bytes[1]];
         u16::from_be_bytes([hi, lo])
@@ -97,7 +91,9 @@ impl ReadUnchecked for U16Be {
 impl ReadUnchecked for I16Be {
     type HostType = i16;
 
-    ghost size = { 2 };
+    const SIZE: usize = size::I16;
+
+    ghost SIZE = { 2 };
 
     ghost good = { λ v. FitsSigned w16 v };
 
@@ -113,10 +109,6 @@ impl ReadUnchecked for I16Be {
 
     ghost some = { Prim.search rules };
 
-    fn size() -> usize {
-        size::I16
-    }
-
     fn read_unchecked(bytes: &[u8]) -> i16 {
         let [hi, lo] = [bytes[0], bytes[1]];
         i16::from_be_bytes([hi, lo])
@@ -126,7 +118,9 @@ impl ReadUnchecked for I16Be {
 impl ReadUnchecked for U32Be {
     type HostType = u32;
 
-    ghost size = { 4 };
+    const SIZE: usize = size::U32;
+
+    ghost SIZE = { 4 };
 
     ghost good = { λ v. v < 2 ^ 32 };
 
@@ -142,10 +136,6 @@ impl ReadUnchecked for U32Be {
 
     ghost some = { Prim.search rules };
 
-    fn size() -> usize {
-        size::U32
-    }
-
     fn read_unchecked(bytes: &[u8]) -> u32 {
         u32::from_be_bytes([bytes[0], bytes[1], bytes[2], bytes[3]])
     }
@@ -154,7 +144,9 @@ impl ReadUnchecked for U32Be {
 impl ReadUnchecked for F2Dot14 {
     type HostType = F2Dot14;
 
-    ghost size = { 2 };
+    const SIZE: usize = size::F2DOT14;
+
+    ghost SIZE = { 2 };
 
     ghost good = { λ v. FitsSigned w16 v.0 };
 
@@ -170,10 +162,6 @@ impl ReadUnchecked for F2Dot14 {
 
     ghost some = { Prim.search rules };
 
-    fn size() -> usize {
-        size::F2DOT14
-    }
-
     fn read_unchecked(bytes: &[u8]) -> F2Dot14 {
         F2Dot14(i16::from_be_bytes([bytes[0], bytes[1]]))
     }
@@ -182,7 +170,9 @@ impl ReadUnchecked for F2Dot14 {
 impl ReadUnchecked for BoundingBox {
     type HostType = BoundingBox;
 
-    ghost size = { 8 };
+    const SIZE: usize = size::BOUNDING_BOX;
+
+    ghost SIZE = { 8 };
 
     ghost good = { λ b. FitsSigned w16 b.x_min × FitsSigned w16 b.y_min × FitsSigned w16 b.x_max × FitsSigned w16 b.y_max };
 
@@ -198,10 +188,6 @@ impl ReadUnchecked for BoundingBox {
 
     ghost some = { Prim.search rules };
 
-    fn size() -> usize {
-        size::BOUNDING_BOX
-    }
-
     fn read_unchecked(bytes: &[u8]) -> BoundingBox {
         BoundingBox {
             x_min: i16::from_be_bytes([bytes[0], bytes[1]]),
@@ -215,7 +201,9 @@ impl ReadUnchecked for BoundingBox {
 impl ReadUnchecked for LongHorMetric {
     type HostType = LongHorMetric;
 
-    ghost size = { 4 };
+    const SIZE: usize = size::LONG_HOR_METRIC;
+
+    ghost SIZE = { 4 };
 
     ghost good = { λ m. (m.advance_width < 2 ^ 16) × FitsSigned w16 m.lsb };
 
@@ -230,10 +218,6 @@ impl ReadUnchecked for LongHorMetric {
     ghost write_back = { λ bs len ok. metric_again bs ok len };
 
     ghost some = { Prim.search rules };
-
-    fn size() -> usize {
-        size::LONG_HOR_METRIC
-    }
 
     fn read_unchecked(bytes: &[u8]) -> LongHorMetric {
         LongHorMetric {

@@ -14,7 +14,7 @@ pub fn write_array<T: WriteBinary, C: WriteContext>(
     ctxt: &mut C,
     array: &ReadArray<'_, T>,
 ) -> Result<(), WriteError>
-    ensures { Puts C.WriteContext.meaning (flat_map T.ReadUnchecked.encode (fields T.ReadUnchecked.size T.ReadUnchecked.decode array.now.bytes.now)) ctxt.old result ctxt.new }
+    ensures { Puts C.WriteContext.meaning (flat_map T.ReadUnchecked.encode (fields T.ReadUnchecked.SIZE T.ReadUnchecked.decode array.now.bytes.now)) ctxt.old result ctxt.new }
 {
     if !has_space::<T, C>(ctxt, array.len()) {
         return Err(WriteError::NoSpace);
@@ -41,15 +41,15 @@ where
 fn has_space<T: WriteBinary, C: WriteContext>(ctxt: &C, n: usize) -> bool
     ensures { (vs : List T.HostType) → length vs ≡ n → result ≡ nat_le (length (flat_map T.ReadUnchecked.encode vs)) (C.WriteContext.meaning.space ctxt.now) }
 {
-    n <= ctxt.space() / T::size()
+    n <= ctxt.space() / T::SIZE
 }
 
 fn write_items<T: WriteBinary, C: WriteContext>(
     ctxt: &mut C,
     array: &ReadArray<'_, T>,
 ) -> Result<(), WriteError>
-    requires { length (flat_map T.ReadUnchecked.encode (fields T.ReadUnchecked.size T.ReadUnchecked.decode array.now.bytes.now)) ≤ C.WriteContext.meaning.space ctxt.old }
-    ensures { (result ≡ Ok tt) × (Put C.WriteContext.meaning (flat_map T.ReadUnchecked.encode (fields T.ReadUnchecked.size T.ReadUnchecked.decode array.now.bytes.now)) ctxt.old ctxt.new) }
+    requires { length (flat_map T.ReadUnchecked.encode (fields T.ReadUnchecked.SIZE T.ReadUnchecked.decode array.now.bytes.now)) ≤ C.WriteContext.meaning.space ctxt.old }
+    ensures { (result ≡ Ok tt) × (Put C.WriteContext.meaning (flat_map T.ReadUnchecked.encode (fields T.ReadUnchecked.SIZE T.ReadUnchecked.decode array.now.bytes.now)) ctxt.old ctxt.new) }
 {
     for value in array.iter() {
         T::write(ctxt, value)?;

@@ -24,14 +24,14 @@ pub struct ReadArrayIter<'a, T> {
 impl<'a, T: ReadUnchecked> ReadArray<'a, T> {
     /// How many fields there are.
     pub fn len(&self) -> usize
-        ensures { result ≡ length (fields T.ReadUnchecked.size T.ReadUnchecked.decode self.now.bytes.now) }
+        ensures { result ≡ length (fields T.ReadUnchecked.SIZE T.ReadUnchecked.decode self.now.bytes.now) }
     {
         whole_fields::<T>(self.bytes)
     }
 
     /// The field at an index, where there is one.
     pub fn get_item(&self, index: usize) -> Option<T::HostType>
-        ensures { result ≡ slice_get (fields T.ReadUnchecked.size T.ReadUnchecked.decode self.now.bytes.now) index }
+        ensures { result ≡ slice_get (fields T.ReadUnchecked.SIZE T.ReadUnchecked.decode self.now.bytes.now) index }
     {
         let item = field_bytes::<T>(self.bytes, index)?;
         Some(T::read_unchecked(item))
@@ -50,7 +50,7 @@ impl<'a, T: ReadUnchecked> ReadArray<'a, T> {
 impl<'a, T: ReadUnchecked> Iterator for ReadArrayIter<'a, T> {
     type Item = T::HostType;
 
-    ghost next_gives = { λ s r t. MatchOption r (fields T.ReadUnchecked.size T.ReadUnchecked.decode s.bytes.now ≡ []) (λ x. fields T.ReadUnchecked.size T.ReadUnchecked.decode s.bytes.now ≡ x ∷ fields T.ReadUnchecked.size T.ReadUnchecked.decode t.bytes.now) };
+    ghost next_gives = { λ s r t. MatchOption r (fields T.ReadUnchecked.SIZE T.ReadUnchecked.decode s.bytes.now ≡ []) (λ x. fields T.ReadUnchecked.SIZE T.ReadUnchecked.decode s.bytes.now ≡ x ∷ fields T.ReadUnchecked.SIZE T.ReadUnchecked.decode t.bytes.now) };
 
     ghost remaining = { λ s. at_most (length s.bytes.now) };
 
@@ -63,16 +63,16 @@ impl<'a, T: ReadUnchecked> Iterator for ReadArrayIter<'a, T> {
 
 // How many whole fields some bytes hold.
 fn whole_fields<T: ReadUnchecked>(bytes: &[u8]) -> usize
-    ensures { result ≡ length (fields T.ReadUnchecked.size T.ReadUnchecked.decode bytes.now) }
+    ensures { result ≡ length (fields T.ReadUnchecked.SIZE T.ReadUnchecked.decode bytes.now) }
 {
-    bytes.len() / T::size()
+    bytes.len() / T::SIZE
 }
 
 // Where the field at an index begins in `len` bytes. All of it is there.
 fn place<T: ReadUnchecked>(len: usize, index: usize) -> Option<usize>
-    ensures { MatchOption result (len / T.ReadUnchecked.size ≤ index) (λ at. (index < len / T.ReadUnchecked.size) × (at ≡ index * T.ReadUnchecked.size) × (at + T.ReadUnchecked.size ≤ len)) }
+    ensures { MatchOption result (len / T.ReadUnchecked.SIZE ≤ index) (λ at. (index < len / T.ReadUnchecked.SIZE) × (at ≡ index * T.ReadUnchecked.SIZE) × (at + T.ReadUnchecked.SIZE ≤ len)) }
 {
-    let size = T::size();
+    let size = T::SIZE;
     if index < len / size {
         Some(index * size)
     } else {
@@ -82,19 +82,19 @@ fn place<T: ReadUnchecked>(len: usize, index: usize) -> Option<usize>
 
 // The bytes of the field at an index.
 fn field_bytes<'a, T: ReadUnchecked>(bytes: &'a [u8], index: usize) -> Option<&'a [u8]>
-    ensures { MatchOption result (slice_get (fields T.ReadUnchecked.size T.ReadUnchecked.decode bytes.now) index ≡ None) (λ item. (length item.now ≡ T.ReadUnchecked.size) × (slice_get (fields T.ReadUnchecked.size T.ReadUnchecked.decode bytes.now) index ≡ Some (T.ReadUnchecked.decode item.now))) }
+    ensures { MatchOption result (slice_get (fields T.ReadUnchecked.SIZE T.ReadUnchecked.decode bytes.now) index ≡ None) (λ item. (length item.now ≡ T.ReadUnchecked.SIZE) × (slice_get (fields T.ReadUnchecked.SIZE T.ReadUnchecked.decode bytes.now) index ≡ Some (T.ReadUnchecked.decode item.now))) }
 {
     let at = place::<T>(bytes.len(), index)?;
-    let end = at + T::size();
+    let end = at + T::SIZE;
     Some(&bytes[at..end])
 }
 
 // The bytes of the first field, and those behind it.
 fn first_field<'a, T: ReadUnchecked>(bytes: &'a [u8]) -> Option<(&'a [u8], &'a [u8])>
-    ensures { MatchOption result (fields T.ReadUnchecked.size T.ReadUnchecked.decode bytes.now ≡ []) (λ p. (length p.0.now ≡ T.ReadUnchecked.size) × (fields T.ReadUnchecked.size T.ReadUnchecked.decode bytes.now ≡ T.ReadUnchecked.decode p.0.now ∷ fields T.ReadUnchecked.size T.ReadUnchecked.decode p.1.now) × (length p.1.now < length bytes.now)) }
+    ensures { MatchOption result (fields T.ReadUnchecked.SIZE T.ReadUnchecked.decode bytes.now ≡ []) (λ p. (length p.0.now ≡ T.ReadUnchecked.SIZE) × (fields T.ReadUnchecked.SIZE T.ReadUnchecked.decode bytes.now ≡ T.ReadUnchecked.decode p.0.now ∷ fields T.ReadUnchecked.SIZE T.ReadUnchecked.decode p.1.now) × (length p.1.now < length bytes.now)) }
 {
-    if bytes.len() < T::size() {
+    if bytes.len() < T::SIZE {
         return None;
     }
-    Some(bytes.split_at(T::size()))
+    Some(bytes.split_at(T::SIZE))
 }

@@ -30,8 +30,10 @@ pub struct ReadCtxt<'a> {
 pub trait ReadUnchecked {
     type HostType;
 
-    // How many bytes a field has.
-    ghost size: { ℕ };
+    /// How many bytes a field has.
+    const SIZE: usize;
+
+    ghost SIZE: { ℕ };
 
     // The values that a field can hold.
     ghost good: { Self.HostType → Type 0 };
@@ -42,23 +44,20 @@ pub trait ReadUnchecked {
     // What bytes say.
     ghost decode: { List ℕ → Self.HostType };
 
-    fn size() -> usize
-        ensures { result ≡ size };
-
     /// What the bytes of one field say.
     fn read_unchecked(bytes: &[u8]) -> Self::HostType
-        requires { length bytes.now ≡ size }
+        requires { length bytes.now ≡ SIZE }
         ensures { result ≡ decode bytes.now };
 
     // Reading what was written returns the value, from just those bytes.
     ghost read_back: { (v : Self.HostType) → good v → decode (encode v) ≡ v };
 
-    ghost exact: { (v : Self.HostType) → length (encode v) ≡ size };
+    ghost exact: { (v : Self.HostType) → length (encode v) ≡ SIZE };
 
     // Writing what was read returns those bytes.
-    ghost write_back: { (bs : List ℕ) → length bs ≡ size → AllBytes bs → encode (decode bs) ≡ bs };
+    ghost write_back: { (bs : List ℕ) → length bs ≡ SIZE → AllBytes bs → encode (decode bs) ≡ bs };
 
-    ghost some: { 1 ≤ size };
+    ghost some: { 1 ≤ SIZE };
 }
 
 impl<'a> ReadScope<'a> {
@@ -90,9 +89,9 @@ impl<'a> ReadCtxt<'a> {
     }
 
     pub fn read<T: ReadUnchecked>(&mut self) -> Result<T::HostType, ParseError>
-        ensures { Takes T.ReadUnchecked.size (λ v bs. v ≡ T.ReadUnchecked.decode bs) BadEof self.old.rest.now result self.new.rest.now }
+        ensures { Takes T.ReadUnchecked.SIZE (λ v bs. v ≡ T.ReadUnchecked.decode bs) BadEof self.old.rest.now result self.new.rest.now }
     {
-        let bytes = self.read_slice(T::size())?;
+        let bytes = self.read_slice(T::SIZE)?;
         Ok(T::read_unchecked(bytes))
     }
 
@@ -124,15 +123,12 @@ impl<'a> ReadCtxt<'a> {
     }
 
     pub fn read_array<T: ReadUnchecked>(&mut self, n: usize) -> Result<ReadArray<'a, T>, ParseError>
-        ensures { Takes (n * T.ReadUnchecked.size) (λ a bs. a.bytes.now ≡ bs) BadEof self.old.rest.now result self.new.rest.now }
+        ensures { Takes (n * T.ReadUnchecked.SIZE) (λ a bs. a.bytes.now ≡ bs) BadEof self.old.rest.now result self.new.rest.now }
     {
-        let scope = self.read_scope(n.saturating_mul(T::size()));
-        match scope {
-            Ok(scope) => Ok(ReadArray {
-                bytes: scope.bytes,
-                kind: PhantomData,
-            }),
-            Err(eof) => Err(ParseError::from(eof)),
-        }
+        let scope = self.read_scope(n.saturating_mul(T::SIZE))?;
+        Ok(ReadArray {
+            bytes: scope.bytes,
+            kind: PhantomData,
+        })
     }
 }

@@ -6,5 +6,5 @@ pub returns : goal.returns
 returns g c =
     λ vs e.
     ap (λ n. leb n (c.space.result / c.size.result)) (sym e)
-    ∙ room_for g.C.WriteContext.meaning g.T.ReadUnchecked.encode g.T.ReadUnchecked.size g.met.T.ReadUnchecked.exact
+    ∙ room_for g.C.WriteContext.meaning g.T.ReadUnchecked.encode g.T.ReadUnchecked.SIZE g.met.T.ReadUnchecked.exact
     vs c.args.ctxt.now c.space.result c.size.result c.space.ensures c.size.ensures g.met.T.ReadUnchecked.some

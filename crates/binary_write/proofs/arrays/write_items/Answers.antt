@@ -9,7 +9,7 @@ use Rattle.binary_write.proofs.arrays.write_items.Given as given
 use Rattle.binary_write.proofs.arrays.write_items.Goals as goal
 
 abbrev all : (g : given.Over) → List ℕ → List g.row.T-HostType.Denot
-all g bs = fields g.T.ReadUnchecked.size g.T.ReadUnchecked.decode bs
+all g bs = fields g.T.ReadUnchecked.SIZE g.T.ReadUnchecked.decode bs
 
 -- What came so far is shorter than the whole, where something comes.
 shorter : {A : Type 0} (whole vs rest tail : List A) (v : A) → whole ≡ vs ++ rest → rest ≡ v ∷ tail → length vs < length whole
@@ -28,7 +28,7 @@ loop-value-preserved g c =
     let done = c.loop-value.invariant in
     let step = c.in-Some.ensures.steps in
     let got =
-    turn g.C.WriteContext.meaning g.T.ReadUnchecked.encode g.T.ReadUnchecked.size g.met.T.ReadUnchecked.exact
+    turn g.C.WriteContext.meaning g.T.ReadUnchecked.encode g.T.ReadUnchecked.SIZE g.met.T.ReadUnchecked.exact
     (all g c.args.array.now.bytes.now) c.loop-value.yielded c.in-Some.value _ _ _ _
     c.requires (shorter _ _ _ _ _ done.3 step) done.2 c.write.ensures
     in (
@@ -42,7 +42,7 @@ pub returns-in_err-write : goal.returns-in_err-write
 returns-in_err-write g c =
     let done = c.loop-value.invariant in
     let ok =
-    (turn g.C.WriteContext.meaning g.T.ReadUnchecked.encode g.T.ReadUnchecked.size g.met.T.ReadUnchecked.exact
+    (turn g.C.WriteContext.meaning g.T.ReadUnchecked.encode g.T.ReadUnchecked.SIZE g.met.T.ReadUnchecked.exact
     (all g c.args.array.now.bytes.now) c.loop-value.yielded c.in-Some.value _ _ _ _
     c.requires (shorter _ _ _ _ _ done.3 c.in-Some.ensures.steps) done.2 c.write.ensures).0
     in

@@ -9,5 +9,5 @@ invariant-loop-value g l =
     (goal.iterator-loop-value g).can_next l.value-iterator
     × (goal.iterator-loop-value g).is_finite l.value-iterator
     × Put g.C.WriteContext.meaning (flat_map g.T.ReadUnchecked.encode l.yielded) l.initial.ctxt l.ctxt
-    × (fields g.T.ReadUnchecked.size g.T.ReadUnchecked.decode l.array.bytes.now
-    ≡ l.yielded ++ fields g.T.ReadUnchecked.size g.T.ReadUnchecked.decode l.value-iterator.bytes.now)
+    × (fields g.T.ReadUnchecked.SIZE g.T.ReadUnchecked.decode l.array.bytes.now
+    ≡ l.yielded ++ fields g.T.ReadUnchecked.SIZE g.T.ReadUnchecked.decode l.value-iterator.bytes.now)

@@ -8,14 +8,14 @@ use Rattle.binary_write.proofs.arrays.write_values.Goals as goal
 
 pub loop-value-preserved : goal.loop-value-preserved
 loop-value-preserved g c =
-    (turn_at g.C.WriteContext.meaning g.T.ReadUnchecked.encode g.T.ReadUnchecked.size g.met.T.ReadUnchecked.exact
+    (turn_at g.C.WriteContext.meaning g.T.ReadUnchecked.encode g.T.ReadUnchecked.SIZE g.met.T.ReadUnchecked.exact
     c.args.values.now c.loop-value.value-index c.value-item.result _ _ _ _
     c.requires c.loop-value-test.true c.value-item.is c.loop-value.invariant c.write.ensures).1
 
 pub returns-in_err-write : goal.returns-in_err-write
 returns-in_err-write g c =
     let ok =
-    (turn_at g.C.WriteContext.meaning g.T.ReadUnchecked.encode g.T.ReadUnchecked.size g.met.T.ReadUnchecked.exact
+    (turn_at g.C.WriteContext.meaning g.T.ReadUnchecked.encode g.T.ReadUnchecked.SIZE g.met.T.ReadUnchecked.exact
     c.args.values.now c.loop-value.value-index c.value-item.result _ _ _ _
     c.requires c.loop-value-test.true c.value-item.is c.loop-value.invariant c.write.ensures).0
     in

@@ -4,5 +4,5 @@ use Rattle.read.proofs.array.whole_fields.Goals as goal
 
 pub returns : goal.returns
 returns g c =
-    ap (λ n. length c.args.bytes.now / n) c.size.ensures
-    ∙ sym (fields_length g.T.ReadUnchecked.size g.T.ReadUnchecked.decode c.args.bytes.now)
+    ap (λ n. length c.args.bytes.now / n) c.SIZE.ensures
+    ∙ sym (fields_length g.T.ReadUnchecked.SIZE g.T.ReadUnchecked.decode c.args.bytes.now)
