@@ -1,44 +1,58 @@
 //! An array of fields, where it lies in the bytes.
-ghost use Rattle.std.specs.Prelude.{◌≡◌, ◌+◌, ◌*◌, ◌/◌, ◌<◌, ◌≤◌, [], ◌∷◌, length, Some, None, MatchOption};
+ghost use Rattle.std.specs.Prelude.{◌≡◌, ◌+◌, ◌*◌, ◌/◌, ◌<◌, ◌≤◌, List, [], ◌∷◌, length, Some, None, MatchOption};
 ghost use Rattle.read.specs.Arrays.{fields};
 ghost use Rattle.std.specs.List.{slice_get};
-ghost use Rattle.std.specs.Iterator.{at_most};
+ghost use Rattle.std.specs.Iterator.{YieldsFirst, item_count};
 
 use crate::ReadUnchecked;
-use std::marker::PhantomData;
+use std::marker::{Model, PhantomData};
 
 /// An array of fields, all of one kind: as many as its bytes hold.
 #[derive(Drop)]
-pub struct ReadArray<'a, T> {
+pub struct ReadArray<'a, T: ReadUnchecked> {
     pub(crate) bytes: &'a [u8],
     pub(crate) kind: PhantomData<T>,
 }
 
+// A contract sees an array as the list of its fields.
+impl<'a, T: ReadUnchecked> Model for ReadArray<'a, T> {
+    ghost Value = { List T.HostType };
+
+    ghost view = { λ a. fields T.SIZE T.decode a.bytes.now };
+}
+
 /// A walk over an array: the fields that are still to come.
 #[derive(Drop)]
-pub struct ReadArrayIter<'a, T> {
+pub struct ReadArrayIter<'a, T: ReadUnchecked> {
     bytes: &'a [u8],
     kind: PhantomData<T>,
+}
+
+// A contract sees a walk as the list of what is still to come.
+impl<'a, T: ReadUnchecked> Model for ReadArrayIter<'a, T> {
+    ghost Value = { List T.HostType };
+
+    ghost view = { λ a. fields T.SIZE T.decode a.bytes.now };
 }
 
 impl<'a, T: ReadUnchecked> ReadArray<'a, T> {
     /// How many fields there are.
     pub fn len(&self) -> usize
-        ensures { result ≡ length (fields T.ReadUnchecked.SIZE T.ReadUnchecked.decode self.now.bytes.now) }
+        ensures { result ≡ length self.now }
     {
         whole_fields::<T>(self.bytes)
     }
 
     /// The field at an index, where there is one.
     pub fn get_item(&self, index: usize) -> Option<T::HostType>
-        ensures { result ≡ slice_get (fields T.ReadUnchecked.SIZE T.ReadUnchecked.decode self.now.bytes.now) index }
+        ensures { result ≡ slice_get self.now index }
     {
         let item = field_bytes::<T>(self.bytes, index)?;
         Some(T::read_unchecked(item))
     }
 
     pub fn iter(&self) -> ReadArrayIter<'a, T>
-        ensures { result.bytes.now ≡ self.now.bytes.now }
+        ensures { result ≡ self.now }
     {
         ReadArrayIter {
             bytes: self.bytes,
@@ -50,9 +64,9 @@ impl<'a, T: ReadUnchecked> ReadArray<'a, T> {
 impl<'a, T: ReadUnchecked> Iterator for ReadArrayIter<'a, T> {
     type Item = T::HostType;
 
-    ghost next_gives = { λ s r t. MatchOption r (fields T.ReadUnchecked.SIZE T.ReadUnchecked.decode s.bytes.now ≡ []) (λ x. fields T.ReadUnchecked.SIZE T.ReadUnchecked.decode s.bytes.now ≡ x ∷ fields T.ReadUnchecked.SIZE T.ReadUnchecked.decode t.bytes.now) };
+    ghost next_gives = { YieldsFirst (λ s. s) };
 
-    ghost remaining = { λ s. at_most (length s.bytes.now) };
+    ghost remaining = { item_count (λ s. s) };
 
     fn next(&mut self) -> Option<T::HostType> {
         let (first, rest) = first_field::<T>(self.bytes)?;
@@ -63,14 +77,14 @@ impl<'a, T: ReadUnchecked> Iterator for ReadArrayIter<'a, T> {
 
 // How many whole fields some bytes hold.
 fn whole_fields<T: ReadUnchecked>(bytes: &[u8]) -> usize
-    ensures { result ≡ length (fields T.ReadUnchecked.SIZE T.ReadUnchecked.decode bytes.now) }
+    ensures { result ≡ length (fields T.SIZE T.decode bytes.now) }
 {
     bytes.len() / T::SIZE
 }
 
 // Where the field at an index begins in `len` bytes. All of it is there.
 fn place<T: ReadUnchecked>(len: usize, index: usize) -> Option<usize>
-    ensures { MatchOption result (len / T.ReadUnchecked.SIZE ≤ index) (λ at. (index < len / T.ReadUnchecked.SIZE) × (at ≡ index * T.ReadUnchecked.SIZE) × (at + T.ReadUnchecked.SIZE ≤ len)) }
+    ensures { MatchOption result (len / T.SIZE ≤ index) (λ at. (index < len / T.SIZE) × (at ≡ index * T.SIZE) × (at + T.SIZE ≤ len)) }
 {
     let size = T::SIZE;
     if index < len / size {
@@ -82,7 +96,7 @@ fn place<T: ReadUnchecked>(len: usize, index: usize) -> Option<usize>
 
 // The bytes of the field at an index.
 fn field_bytes<'a, T: ReadUnchecked>(bytes: &'a [u8], index: usize) -> Option<&'a [u8]>
-    ensures { MatchOption result (slice_get (fields T.ReadUnchecked.SIZE T.ReadUnchecked.decode bytes.now) index ≡ None) (λ item. (length item.now ≡ T.ReadUnchecked.SIZE) × (slice_get (fields T.ReadUnchecked.SIZE T.ReadUnchecked.decode bytes.now) index ≡ Some (T.ReadUnchecked.decode item.now))) }
+    ensures { MatchOption result (slice_get (fields T.SIZE T.decode bytes.now) index ≡ None) (λ item. (length item.now ≡ T.SIZE) × (slice_get (fields T.SIZE T.decode bytes.now) index ≡ Some (T.decode item.now))) }
 {
     let at = place::<T>(bytes.len(), index)?;
     let end = at + T::SIZE;
@@ -91,7 +105,7 @@ fn field_bytes<'a, T: ReadUnchecked>(bytes: &'a [u8], index: usize) -> Option<&'
 
 // The bytes of the first field, and those behind it.
 fn first_field<'a, T: ReadUnchecked>(bytes: &'a [u8]) -> Option<(&'a [u8], &'a [u8])>
-    ensures { MatchOption result (fields T.ReadUnchecked.SIZE T.ReadUnchecked.decode bytes.now ≡ []) (λ p. (length p.0.now ≡ T.ReadUnchecked.SIZE) × (fields T.ReadUnchecked.SIZE T.ReadUnchecked.decode bytes.now ≡ T.ReadUnchecked.decode p.0.now ∷ fields T.ReadUnchecked.SIZE T.ReadUnchecked.decode p.1.now) × (length p.1.now < length bytes.now)) }
+    ensures { MatchOption result (fields T.SIZE T.decode bytes.now ≡ []) (λ p. (length p.0.now ≡ T.SIZE) × (fields T.SIZE T.decode bytes.now ≡ T.decode p.0.now ∷ fields T.SIZE T.decode p.1.now) × (length p.1.now < length bytes.now)) }
 {
     if bytes.len() < T::SIZE {
         return None;
