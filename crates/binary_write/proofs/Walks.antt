@@ -1,15 +1,12 @@
 -- Values written one after the other to a sink.
-use Rattle.std.proofs.Common.{◌≡◌, ℕ, ◌+◌, ◌*◌, ◌/◌, ◌<◌, ◌≤◌, leb, List, [], ◌∷◌, ◌++◌, length, get_or, take, Ok, Err, Result, sym, ap, ◌∙◌, subst, ⊎_elim, mul-le-mul_right, suc-mul, div-lt_iff_lt-mul, zero-mul, div-mul-le_self, arith, le-leb}
+use Rattle.std.proofs.Common.{◌≡◌, ℕ, suc, ◌*◌, ◌/◌, ◌<◌, ◌≤◌, Bool, true, false, leb, List, [], ◌∷◌, ◌++◌, length, Ok, Err, MatchBool, Result, refl, sym, ap, ◌∙◌, subst, ⊎_elim, mul-le-mul_right, suc-mul, div-lt_iff_lt-mul, zero-mul, div-mul-le_self, arith, le-leb, leb-false}
 use borrow.Author.Tests.{lt-leb}
 use Rattle.std.specs.List.{flat_map}
-use Rattle.std.proofs.lemmas.List.{append_assoc, append-nil, flat_map_more, length-append, length_push, length-take-le, take_more}
+use Rattle.std.proofs.lemmas.List.{append_assoc, append-nil, flat_map_more, length-append}
 use Rattle.std.proofs.lemmas.Bool.{cases_lt}
 use Rattle.write.specs.Sinks.{Meaning, Put, Puts}
 use Rattle.write.specs.declared.error.WriteError.{WriteError}
-
--- What was accepted was not refused.
-pub not_both : (r : Result Unit WriteError) (e : WriteError) → r ≡ Ok tt → r ≡ Err e → ⊥
-not_both r e p q = let z : ◌≡◌ {A = ℕ} 0 1 = cc in omega arith
+use Rattle.write.specs.declared.error.WriteError.TheVariants.{NoSpace}
 
 module _ {S : Type 0} (m : Meaning S) where
   pub put_none : (s : S) → Put m [] s s
@@ -29,9 +26,23 @@ module _ {S : Type 0} (m : Meaning S) where
         less = omega (arith, p.less, q.less);
       }
 
-  -- A put for which there is space is accepted.
-  pub taken : (bs : List ℕ) (s t : S) (r : Result Unit WriteError) → length bs ≤ m.space s → Puts m bs s r t → (r ≡ Ok tt) × Put m bs s t
-  taken bs s t r h p = rw (le-leb (length bs) (m.space s) h) at p
+  pub puts_ok : (bs : List ℕ) (s t : S) → leb (length bs) (m.space s) ≡ true → Put m bs s t → Puts m bs s (Ok tt) t
+  puts_ok bs s t k p = rw k (refl, p)
+
+  -- What a put says once its answer is known.
+  pub put_of : (bs : List ℕ) (s t : S) → Puts m bs s (Ok tt) t → Put m bs s t
+  put_of bs s t p = by (leb (length bs) (m.space s)) p
+    where
+      by : (b : Bool) → MatchBool b (◌≡◌ {A = Result Unit WriteError} (Ok tt) (Ok tt) × Put m bs s t) (◌≡◌ {A = Result Unit WriteError} (Ok tt) (Err NoSpace) × (t ≡ s)) → Put m bs s t
+      by true q = q.1
+      by false q = let z : ◌≡◌ {A = ℕ} 0 1 = let f = q.0 in cc in absurd (omega arith)
+
+  pub refusal_of : (bs : List ℕ) (e : WriteError) (s t : S) → Puts m bs s (Err e) t → m.space s < length bs
+  refusal_of bs e s t p = by (leb (length bs) (m.space s)) refl p
+    where
+      by : (b : Bool) → leb (length bs) (m.space s) ≡ b → MatchBool b (◌≡◌ {A = Result Unit WriteError} (Err e) (Ok tt) × Put m bs s t) (◌≡◌ {A = Result Unit WriteError} (Err e) (Err NoSpace) × (t ≡ s)) → m.space s < length bs
+      by true k q = let z : ◌≡◌ {A = ℕ} 0 1 = let f = q.0 in cc in absurd (omega arith)
+      by false k q = leb-false (length bs) (m.space s) k
 
   module _ {A : Type 0} (encode : A → List ℕ) (size : ℕ) (exact : (v : A) → length (encode v) ≡ size) where
     pub joined_length : (vs : List A) → length (flat_map encode vs) ≡ length vs * size
@@ -55,25 +66,13 @@ module _ {S : Type 0} (m : Meaning S) where
         (cases_lt (m.space s / size) (length vs))
 
     -- One value more.
-    pub next : (vs : List A) (v : A) (s t u : S) (r : Result Unit WriteError) → Put m (flat_map encode vs) s t → length (flat_map encode (vs ++ v ∷ [])) ≤ m.space s → Puts m (encode v) t r u → (r ≡ Ok tt) × Put m (flat_map encode (vs ++ v ∷ [])) s u
-    next vs v s t u r p room q =
-        let whole : flat_map encode vs ++ encode v ≡ flat_map encode (vs ++ v ∷ []) = flat_map_more encode [] vs v in
-        let long : length (flat_map encode vs) + length (encode v) ≡ length (flat_map encode (vs ++ v ∷ [])) =
-        sym (length-append (flat_map encode vs) (encode v)) ∙ ap length whole
-        in
-        let got = taken (encode v) t u r (omega (arith, p.less)) q in
-        let both = put_more (flat_map encode vs) (encode v) s t u p got.1 in
-        (got.0, subst (λ (bs : List ℕ). Put m bs s u) whole both)
+    pub put_next : (vs : List A) (v : A) (s t u : S) → Put m (flat_map encode vs) s t → Puts m (encode v) t (Ok tt) u → Put m (flat_map encode (vs ++ v ∷ [])) s u
+    put_next vs v s t u p q =
+        subst (λ (bs : List ℕ). Put m bs s u) (flat_map_more encode [] vs v)
+        (put_more (flat_map encode vs) (encode v) s t u p (put_of (encode v) t u q))
 
-    -- One turn of a walk over `all`, with space for all of it.
-    pub turn : (all vs : List A) (v : A) (s t u : S) (r : Result Unit WriteError) → length (flat_map encode all) ≤ m.space s → length vs < length all → Put m (flat_map encode vs) s t → Puts m (encode v) t r u → (r ≡ Ok tt) × Put m (flat_map encode (vs ++ v ∷ [])) s u
-    turn all vs v s t u r room short done put =
-        let more : length (vs ++ v ∷ []) * size ≤ length all * size = mul-le-mul_right size (omega (arith, length_push vs v)) in
-        next vs v s t u r done (omega (arith, joined_length (vs ++ v ∷ []), joined_length all)) put
-
-    -- The same at an index.
-    pub turn_at : (all : List A) (i : ℕ) (v : A) (s t u : S) (r : Result Unit WriteError) → length (flat_map encode all) ≤ m.space s → i < length all → v ≡ get_or all i v → Put m (flat_map encode (take i all)) s t → Puts m (encode v) t r u → (r ≡ Ok tt) × Put m (flat_map encode (take (i + 1) all)) s u
-    turn_at all i v s t u r room low is done put =
-        let e : take (i + 1) all ≡ take i all ++ v ∷ [] = take_more all i v low ∙ ap (λ (x : A). take i all ++ x ∷ []) (sym is) in
-        let got = turn all (take i all) v s t u r room (omega (arith, length-take-le i all (omega arith))) done put in
-        (got.0, subst (λ (ws : List A). Put m (flat_map encode ws) s u) (sym e) got.1)
+    -- Where there is space for `all`, none of them is refused.
+    pub never_refused : (all vs : List A) (v : A) (e : WriteError) (s t u : S) → length (flat_map encode all) ≤ m.space s → length vs < length all → Put m (flat_map encode vs) s t → Puts m (encode v) t (Err e) u → ⊥
+    never_refused all vs v e s t u room short p q =
+        let more : suc (length vs) * size ≤ length all * size = mul-le-mul_right size short in
+        omega (arith, suc-mul (length vs) size, joined_length vs, joined_length all, exact v, p.less, refusal_of (encode v) e t u q)
