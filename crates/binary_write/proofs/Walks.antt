@@ -4,6 +4,11 @@ use borrow.Author.Tests.{lt-leb}
 use Rattle.std.specs.List.{flat_map}
 use Rattle.std.proofs.lemmas.List.{append_assoc, append-nil, flat_map_more, length-append}
 use Rattle.std.proofs.lemmas.Bool.{cases_lt}
+use Rattle.std.specs.Iterator.{AlwaysYields, YieldsFirst}
+use Rattle.std.specs.Iterator.Adapters.{copied_source, copied_steps}
+use Rattle.std.specs.Slice.Iter.{iter_rest, iter_steps}
+use Rattle.std.proofs.lemmas.Iterator.{YieldsList-from_slice}
+use Rattle.std.proofs.lemmas.Iterator.Consumers.{YieldsList-from_first, YieldsList-from_copied}
 use Rattle.write.specs.Sinks.{Meaning, Put, Puts}
 use Rattle.write.specs.declared.error.WriteError.{WriteError}
 use Rattle.write.specs.declared.error.WriteError.TheVariants.{NoSpace}
@@ -76,3 +81,10 @@ module _ {S : Type 0} (m : Meaning S) where
     never_refused all vs v e s t u room short p q =
         let more : suc (length vs) * size ≤ length all * size = mul-le-mul_right size short in
         omega (arith, suc-mul (length vs) size, joined_length vs, joined_length all, exact v, p.less, refusal_of (encode v) e t u q)
+
+-- What an array and a slice give to a loop.
+pub array_gives : {A : Type 0} (s xs : List A) → s ≡ xs → AlwaysYields (YieldsFirst (λ (t : List A). t)) (λ x. x) s xs
+array_gives s xs e = (YieldsList-from_first (λ x. x) (λ t. t) xs e).runs
+
+pub slice_gives : {A : Type 0} (s : _) (xs : List A) → iter_rest (copied_source s) ≡ xs → AlwaysYields (copied_steps (iter_steps {A = A})) (λ x. x) s xs
+slice_gives s xs e = (YieldsList-from_copied (YieldsList-from_slice xs e)).runs

@@ -10,6 +10,7 @@ use write::WriteContext;
 use write::error::WriteError;
 
 /// Writes the fields of an array, all of them or none.
+#[tactic(auto, using(crate::proofs::Walks::array_gives))]
 pub fn write_array<T: WriteBinary, C: WriteContext>(
     ctxt: &mut C,
     array: &ReadArray<'_, T>,
@@ -20,6 +21,7 @@ pub fn write_array<T: WriteBinary, C: WriteContext>(
 }
 
 /// Writes values as fields of one kind, all of them or none.
+#[tactic(auto, using(crate::proofs::Walks::slice_gives))]
 pub fn write_vec<T: WriteBinary, C: WriteContext>(
     ctxt: &mut C,
     values: &[T::HostType],
