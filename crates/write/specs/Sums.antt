@@ -1,9 +1,9 @@
 -- How a checksum grows, and which sums a number of bytes can have.
-use Rattle.std.specs.Prelude.{◌≡◌, ℕ, zero, suc, ◌+◌, ◌-◌, ◌*◌, ◌/◌, ◌%◌, ◌^◌, ◌<◌, ◌≤◌, List, [], ◌∷◌, ◌++◌, length, replicate, refl}
+use Rattle.std.specs.Prelude.{◌≡◌, ℕ, zero, suc, ◌+◌, ◌-◌, ◌*◌, ◌/◌, ◌%◌, ◌^◌, ◌<◌, List, [], ◌∷◌, ◌++◌, length, replicate, refl}
 use Rattle.std.proofs.Common.{sym, ap, ◌∙◌, zero-mul, arith}
 use Rattle.std.proofs.lemmas.List.{append_assoc, append-nil, length-append, length-replicate}
 use Rattle.write.specs.Checksums.{checksum, word}
-use Rattle.write.specs.Meanings.{summed}
+use Rattle.write.specs.Meanings.{counter, summed}
 use Rattle.write.specs.Sinks.{Put}
 use Rattle.write.specs.declared.checksum.WriteChecksum.{WriteChecksum}
 
@@ -82,10 +82,11 @@ still_filled count sum n total bs h f e adds =
     ap (λ (k : ℕ). total % 256 ^ (4 - k)) (sym long)
     ∙ (ap (λ (k : ℕ). k % 256 ^ (4 - length (some.0 ++ bs))) (sym sums) ∙ checksum_filled (some.0 ++ bs))
 
-pub added_up : (bs : List ℕ) (s t : WriteChecksum) → t.count ≡ s.count + length bs → s.count + length bs ≤ 4294967295 → Adds s.count s.sum bs t.sum → Put summed bs s t
-added_up bs s t e h adds =
+-- A checksum has taken bytes once its counter has, and its sum adds them.
+pub added_up : (bs : List ℕ) (s t : WriteChecksum) → Put counter bs s.counter t.counter → Adds s.counter.count s.sum bs t.sum → Put summed bs s t
+added_up bs s t put adds =
     record {
-      behind = λ xs p. (omega (arith, length-append xs bs, p.0), adds xs p.0 p.1);
-      more = e;
-      less = omega arith;
+      behind = λ xs p. (put.behind xs p.0, adds xs p.0 p.1);
+      more = put.more;
+      less = put.less;
     }

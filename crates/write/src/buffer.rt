@@ -1,5 +1,5 @@
 //! A sink that keeps the bytes.
-ghost use Rattle.std.specs.Prelude.{◌+◌, ◌≤◌, vec_len};
+ghost use Rattle.std.specs.Prelude.{◌≤◌, vec_len};
 
 pub mod sink;
 
@@ -8,6 +8,5 @@ pub mod sink;
 pub struct WriteBuffer {
     bytes: Vec<u8>,
     written: usize,
-    space: usize,
-    ghost inside: { written + space ≤ vec_len bytes },
+    ghost inside: { written ≤ vec_len bytes },
 }

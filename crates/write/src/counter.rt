@@ -21,22 +21,6 @@ impl WriteCounter {
     {
         WriteCounter { count: 0 }
     }
-
-    // Whether there is space for `n` bytes.
-    fn fits(&self, n: usize) -> bool
-        ensures { (result ≡ nat_le n (4294967295 - self.now.count)) × (self.now.count ≤ 4294967295) }
-    {
-        let left = u32::MAX - self.count;
-        n <= left as usize
-    }
-
-    fn advance(&mut self, n: usize)
-        requires { self.old.count + n ≤ 4294967295 }
-        ensures bytes { (bs : List ℕ) → length bs ≡ n → Put means.counter bs self.old self.new }
-        ensures zeros { Put means.counter (replicate n 0) self.old self.new }
-    {
-        self.count += n as u32;
-    }
 }
 
 impl WriteContext for WriteCounter {
@@ -46,19 +30,17 @@ impl WriteContext for WriteCounter {
 
     ghost exact = { Prim.search rules };
 
+    #[tactic(auto, using(crate::proofs::Counts::any_bytes))]
     fn write_bytes(&mut self, bytes: &[u8]) -> Result<(), WriteError> {
-        if !self.fits(bytes.len()) {
-            return Err(WriteError::NoSpace);
-        }
-        self.advance(bytes.len());
-        Ok(())
+        self.write_zeros(bytes.len())
     }
 
+    #[tactic(auto, using(crate::proofs::Counts::counted))]
     fn write_zeros(&mut self, n: usize) -> Result<(), WriteError> {
-        if !self.fits(n) {
-            return Err(WriteError::NoSpace);
-        }
-        self.advance(n);
+        let count = u32::try_from(n)
+            .ok()
+            .and_then(|n| self.count.checked_add(n));
+        self.count = count.ok_or(WriteError::NoSpace)?;
         Ok(())
     }
 

@@ -5,7 +5,7 @@ ghost use Rattle.write.specs.Errors.{number_of};
 #[derive(Clone, Copy, PartialEq, Eq)]
 pub enum WriteError {
     /// The sink has no space for what was put.
-    NoSpace,
+    NoSpace = 7,
 }
 
 impl WriteError {
@@ -13,8 +13,6 @@ impl WriteError {
     pub fn number(self) -> u8
         ensures { result ≡ number_of self }
     {
-        match self {
-            WriteError::NoSpace => 7,
-        }
+        self as u8
     }
 }
