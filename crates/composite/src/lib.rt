@@ -2,7 +2,7 @@
 #![tactic(auto)]
 
 ghost use Rattle.std.specs.Prelude.{◌≡◌, ◌+◌, ◌≤◌, length, negsuc};
-ghost use Rattle.composite.specs.Components.{argument_said, argument_size, ByteFc, component_said, component_size, f2dot14_at, flags_said, Reads, scale_said, scale_size};
+ghost use Rattle.composite.specs.Components.{argument_said, argument_size, ByteFc, component_said, component_size, f2dot14_at, flags_said, has, Reads, scale_said, scale_size};
 ghost use Rattle.glyph.specs.declared.component.CompositeGlyphArgument.TheVariants.{I8 as I8Argument};
 ghost use Rattle.read.specs.Reading.{Takes};
 ghost use Rattle.read.specs.declared.error.ParseError.TheVariants.{BadEof};
@@ -26,19 +26,26 @@ pub const WE_HAVE_AN_X_AND_Y_SCALE: u16 = 0x0040;
 pub const WE_HAVE_A_TWO_BY_TWO: u16 = 0x0080;
 
 pub const WE_HAVE_INSTRUCTIONS: u16 = 0x0100;
-// Bits outside these say nothing.
-const KEPT_FLAGS: u16 = 0x1fef;
+/// Bits outside these say nothing.
+pub const KEPT_FLAGS: u16 = 0x1fef;
+
+/// Whether one of the flags of a mask is set.
+pub fn has(flags: u16, mask: u16) -> bool
+    ensures { result ≡ has flags mask }
+{
+    flags & mask != 0
+}
 
 fn read_argument(ctxt: &mut ReadCtxt<'_>, flags: u16) -> Result<CompositeGlyphArgument, ParseError>
     ensures { Takes (argument_size flags) (λ a bs. a ≡ argument_said flags bs) BadEof ctxt.old.rest.now result ctxt.new.rest.now }
 {
-    if flags & ARG_1_AND_2_ARE_WORDS != 0 {
-        if flags & ARGS_ARE_XY_VALUES != 0 {
+    if has(flags, ARG_1_AND_2_ARE_WORDS) {
+        if has(flags, ARGS_ARE_XY_VALUES) {
             Ok(CompositeGlyphArgument::I16(ctxt.read::<I16Be>()?))
         } else {
             Ok(CompositeGlyphArgument::U16(ctxt.read::<U16Be>()?))
         }
-    } else if flags & ARGS_ARE_XY_VALUES != 0 {
+    } else if has(flags, ARGS_ARE_XY_VALUES) {
         Ok(CompositeGlyphArgument::I8(ctxt.read::<I8>()?))
     } else {
         Ok(CompositeGlyphArgument::U8(ctxt.read::<U8>()?))
@@ -55,16 +62,16 @@ fn f2dot14_at(bytes: &[u8], at: usize) -> F2Dot14
 fn read_scale(ctxt: &mut ReadCtxt<'_>, flags: u16) -> Result<CompositeGlyphScale, ParseError>
     ensures { Takes (scale_size flags) (λ s bs. s ≡ scale_said flags bs) BadEof ctxt.old.rest.now result ctxt.new.rest.now }
 {
-    if flags & WE_HAVE_A_SCALE != 0 {
+    if has(flags, WE_HAVE_A_SCALE) {
         let bytes = ctxt.read_slice(2)?;
         Ok(CompositeGlyphScale::Scale(f2dot14_at(bytes, 0)))
-    } else if flags & WE_HAVE_AN_X_AND_Y_SCALE != 0 {
+    } else if has(flags, WE_HAVE_AN_X_AND_Y_SCALE) {
         let bytes = ctxt.read_slice(4)?;
         Ok(CompositeGlyphScale::XY {
             x_scale: f2dot14_at(bytes, 0),
             y_scale: f2dot14_at(bytes, 2),
         })
-    } else if flags & WE_HAVE_A_TWO_BY_TWO != 0 {
+    } else if has(flags, WE_HAVE_A_TWO_BY_TWO) {
         let bytes = ctxt.read_slice(8)?;
         Ok(CompositeGlyphScale::Matrix {
             xx: f2dot14_at(bytes, 0),

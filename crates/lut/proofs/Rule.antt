@@ -1,22 +1,24 @@
 -- The rule of the table, tested at each of its rows.
-use Rattle.std.proofs.Common.{◌≡◌, ℕ, zero, suc, ◌+◌, ◌<◌, Bool, true, false, T, eqb, List, [], ◌∷◌, length, get_or, sym, refl, ap, ◌∙◌, add-zero, add-suc, suc-add, zero-add, arith, eqb→eq}
+use Rattle.std.proofs.Common.{◌≡◌, ℕ, zero, suc, ◌+◌, ◌<◌, Bool, true, false, eqb, List, [], ◌∷◌, length, get_or, sym, refl, ap, ◌∙◌, add-zero, add-suc, suc-add, zero-add, arith}
+use Rattle.std.proofs.lemmas.Bool.{eqb-true}
+use Rattle.std.specs.Bool.{IsTrue}
 use Rattle.lut.specs.Rows.{row_of}
 use Rattle.lut.specs.Tested.{alike, ruled, same_row}
 use Rattle.read.specs.Tests.{both}
 use Rattle.lut.specs.declared.table.XYTriplet.{XYTriplet}
 
-both_left : (a b : Bool) → T (both a b) → T a
-both_left true b t = tt
-both_left false b t = t
+both_left : (a b : Bool) → IsTrue (both a b) → IsTrue a
+both_left true b t = refl
+both_left false b t = absurd (cc)
 
-both_right : (a b : Bool) → T (both a b) → T b
+both_right : (a b : Bool) → IsTrue (both a b) → IsTrue b
 both_right true b t = t
-both_right false b t = absurd t
+both_right false b t = absurd (cc)
 
-alike_same : (a b : Bool) → T (alike a b) → a ≡ b
+alike_same : (a b : Bool) → IsTrue (alike a b) → a ≡ b
 alike_same true true t = refl
-alike_same true false t = absurd t
-alike_same false true t = absurd t
+alike_same true false t = absurd (cc)
+alike_same false true t = absurd (cc)
 alike_same false false t = refl
 
 row : ℕ → ℕ → ℕ → ℕ → ℕ → Bool → Bool → XYTriplet
@@ -31,7 +33,7 @@ row n xb yb dx dy xn yn =
       y_is_negative = yn;
     }
 
-equal_row : (a b : XYTriplet) → T (same_row a b) → a ≡ b
+equal_row : (a b : XYTriplet) → IsTrue (same_row a b) → a ≡ b
 unfolding row
 equal_row a b t =
     let t1 = both_right (eqb a.byte_count b.byte_count) _ t in
@@ -39,22 +41,22 @@ equal_row a b t =
     let t3 = both_right (eqb a.y_bits b.y_bits) _ t2 in
     let t4 = both_right (eqb a.delta_x b.delta_x) _ t3 in
     let t5 = both_right (eqb a.delta_y b.delta_y) _ t4 in
-    let e0 = eqb→eq a.byte_count b.byte_count (both_left (eqb a.byte_count b.byte_count) _ t) in
-    let e1 = eqb→eq a.x_bits b.x_bits (both_left (eqb a.x_bits b.x_bits) _ t1) in
-    let e2 = eqb→eq a.y_bits b.y_bits (both_left (eqb a.y_bits b.y_bits) _ t2) in
-    let e3 = eqb→eq a.delta_x b.delta_x (both_left (eqb a.delta_x b.delta_x) _ t3) in
-    let e4 = eqb→eq a.delta_y b.delta_y (both_left (eqb a.delta_y b.delta_y) _ t4) in
+    let e0 = eqb-true a.byte_count b.byte_count (both_left (eqb a.byte_count b.byte_count) _ t) in
+    let e1 = eqb-true a.x_bits b.x_bits (both_left (eqb a.x_bits b.x_bits) _ t1) in
+    let e2 = eqb-true a.y_bits b.y_bits (both_left (eqb a.y_bits b.y_bits) _ t2) in
+    let e3 = eqb-true a.delta_x b.delta_x (both_left (eqb a.delta_x b.delta_x) _ t3) in
+    let e4 = eqb-true a.delta_y b.delta_y (both_left (eqb a.delta_y b.delta_y) _ t4) in
     let e5 = alike_same a.x_is_negative b.x_is_negative (both_left (alike a.x_is_negative b.x_is_negative) _ t5) in
     let e6 = alike_same a.y_is_negative b.y_is_negative (both_right (alike a.x_is_negative b.x_is_negative) _ t5) in
     let e : row a.byte_count a.x_bits a.y_bits a.delta_x a.delta_y a.x_is_negative a.y_is_negative ≡ row b.byte_count b.x_bits b.y_bits b.delta_x b.delta_y b.x_is_negative b.y_is_negative = cc in
     e
 
-from : (ts : List XYTriplet) (i : ℕ) → T (ruled i ts) → (k : ℕ) (d : XYTriplet) → k < length ts → get_or ts k d ≡ row_of (i + k)
+from : (ts : List XYTriplet) (i : ℕ) → IsTrue (ruled i ts) → (k : ℕ) (d : XYTriplet) → k < length ts → get_or ts k d ≡ row_of (i + k)
 from [] i t k d h = absurd (omega arith)
 from (r ∷ ts) i t zero d h = equal_row r (row_of i) (both_left (same_row r (row_of i)) (ruled (suc i) ts) t) ∙ ap row_of (sym (add-zero i))
 from (r ∷ ts) i t (suc k) d h =
     from ts (suc i) (both_right (same_row r (row_of i)) (ruled (suc i) ts) t) k d (omega arith)
     ∙ ap row_of (suc-add i k ∙ sym (add-suc i k))
 
-pub by_rule : (ts : List XYTriplet) → T (ruled 0 ts) → (k : ℕ) (d : XYTriplet) → k < length ts → get_or ts k d ≡ row_of k
+pub by_rule : (ts : List XYTriplet) → IsTrue (ruled 0 ts) → (k : ℕ) (d : XYTriplet) → k < length ts → get_or ts k d ≡ row_of k
 by_rule ts t k d h = from ts 0 t k d h ∙ ap row_of (zero-add k)

@@ -1,7 +1,7 @@
 //! Steps from point to point, as a flag and the bytes behind it say them.
 #![tactic(auto)]
 
-ghost use Rattle.std.specs.Prelude.{◌≡◌, ◌%◌, ◌<◌, T, length};
+ghost use Rattle.std.specs.Prelude.{◌≡◌, ◌%◌, ◌<◌, IsTrue, length};
 ghost use Rattle.lut.specs.Rows.{row_of};
 ghost use Rattle.lut.specs.Tested.{ruled};
 ghost use Rattle.lut.specs.Triplets.{Triplet, WorkedRows};
@@ -23,8 +23,9 @@ pub fn row(flag: u8) -> XYTriplet
 }
 
 // A row of a table that passes the test of the rule.
+#[tactic(auto, using(crate::proofs::Rule::by_rule))]
 fn ruled_row(table: &[XYTriplet], index: usize) -> XYTriplet
-    requires { (index < length table.now) × (T (ruled 0 table.now)) }
+    requires { (index < length table.now) × (IsTrue (ruled 0 table.now)) }
     ensures { result ≡ row_of index }
 {
     table[index]

@@ -13,10 +13,7 @@ fn signed(falls: bool, size: u32) -> Result<i16, ParseError>
 {
     let size = i64::from(size);
     let step = if falls { -size } else { size };
-    match i16::try_from(step) {
-        Ok(step) => Ok(step),
-        Err(_) => Err(ParseError::BadValue),
-    }
+    i16::try_from(step).map_err(|_| ParseError::BadValue)
 }
 
 // One to four bytes as one number, the highest first.
@@ -32,15 +29,6 @@ fn number_of(bytes: &[u8]) -> u32
     }
 }
 
-// Two steps by direction and size, or a refusal if one is out of range.
-fn pair(x_falls: bool, x: u32, y_falls: bool, y: u32) -> Result<(i16, i16), ParseError>
-    ensures { result ≡ pair_by x_falls x y_falls y }
-{
-    let dx = signed(x_falls, x)?;
-    let dy = signed(y_falls, y)?;
-    Ok((dx, dy))
-}
-
 // The steps that the bytes behind a flag say, by the flag's row.
 pub(crate) fn steps(flag: u8, row: XYTriplet, bytes: &[u8]) -> Result<(i16, i16), ParseError>
     requires { (row ≡ row_of (flag % 128)) × (length bytes.now ≡ bytes_in (group_of (flag % 128))) }
@@ -49,5 +37,7 @@ pub(crate) fn steps(flag: u8, row: XYTriplet, bytes: &[u8]) -> Result<(i16, i16)
     let data = number_of(bytes);
     let x = (data >> row.y_bits) % (1 << row.x_bits) + u32::from(row.delta_x);
     let y = data % (1 << row.y_bits) + u32::from(row.delta_y);
-    pair(row.x_is_negative, x, row.y_is_negative, y)
+    let dx = signed(row.x_is_negative, x)?;
+    let dy = signed(row.y_is_negative, y)?;
+    Ok((dx, dy))
 }

@@ -40,7 +40,7 @@ fn placed(byte: u8, at: usize) -> u32
     u32::from(byte) << (24 - 8 * (at % 4))
 }
 
-// The sum of some bytes that begin at `at`, added to the sum of those before.
+// The sum of some bytes that begin at `at`, added to the sum of those before. A place counts modulo 4, so it may wrap.
 fn added(sum: u32, at: usize, bytes: &[u8]) -> u32
     ensures { (xs : List ℕ) → length xs ≡ at → checksum xs ≡ sum → checksum (xs ++ bytes.now) ≡ result }
 {
