@@ -1,2 +1,3 @@
 pub mod Bitmaps
+pub mod Headers
 pub mod Streams

@@ -1,10 +1,11 @@
 //! The header of a transformed glyf table.
 ghost use Rattle.std.specs.Prelude.{◌≡◌, ◌+◌, ◌^◌, ◌<◌, ◌≤◌, length, Some, None, Ok, Err, MatchBool, MatchResult, nat_le};
-ghost use Rattle.binary.specs.Bytes.{u16_at, u32_at};
 ghost use Rattle.read.specs.declared.error.ParseError.TheVariants.{BadEof};
 ghost use Rattle.woff2.specs.Transformed.{bitmap_size, boxes_at, header_said, spans_of, streams_fault, WorkedBitmaps};
 
+use binary::{U16Be, U32Be};
 use read::error::ParseError;
+use read::{ReadCtxt, ReadScope};
 
 /// How many glyphs there are, the format of loca, and the size of each stream in bytes.
 #[derive(Clone, Copy)]
@@ -32,19 +33,23 @@ impl GlyfHeader {
     pub fn read(data: &[u8]) -> Result<GlyfHeader, ParseError>
         ensures { MatchBool (nat_le 36 (length «data».now)) (result ≡ Ok (header_said «data».now)) (result ≡ Err BadEof) }
     {
-        if data.len() < 36 {
-            return Err(ParseError::BadEof);
-        }
+        GlyfHeader::read_fields(&mut ReadScope::new(data).ctxt())
+    }
+
+    fn read_fields(ctxt: &mut ReadCtxt<'_>) -> Result<GlyfHeader, ParseError>
+        ensures { MatchBool (nat_le 36 (length ctxt.old.rest.now)) (result ≡ Ok (header_said ctxt.old.rest.now)) (result ≡ Err BadEof) }
+    {
+        let _reserved = ctxt.read::<U32Be>()?;
         Ok(GlyfHeader {
-            num_glyphs: u16_at(data, 4),
-            index_format: u16_at(data, 6),
-            n_contour_size: u32_at(data, 8),
-            n_points_size: u32_at(data, 12),
-            flag_size: u32_at(data, 16),
-            glyph_size: u32_at(data, 20),
-            composite_size: u32_at(data, 24),
-            bbox_size: u32_at(data, 28),
-            instruction_size: u32_at(data, 32),
+            num_glyphs: ctxt.read::<U16Be>()?,
+            index_format: ctxt.read::<U16Be>()?,
+            n_contour_size: ctxt.read::<U32Be>()?,
+            n_points_size: ctxt.read::<U32Be>()?,
+            flag_size: ctxt.read::<U32Be>()?,
+            glyph_size: ctxt.read::<U32Be>()?,
+            composite_size: ctxt.read::<U32Be>()?,
+            bbox_size: ctxt.read::<U32Be>()?,
+            instruction_size: ctxt.read::<U32Be>()?,
         })
     }
 
@@ -128,18 +133,4 @@ impl GlyfHeader {
             },
         ]
     }
-}
-
-fn u16_at(data: &[u8], at: usize) -> u16
-    requires { at + 2 ≤ length «data».now }
-    ensures { result ≡ u16_at «data».now at }
-{
-    u16::from_be_bytes([data[at], data[at + 1]])
-}
-
-fn u32_at(data: &[u8], at: usize) -> u32
-    requires { at + 4 ≤ length «data».now }
-    ensures { result ≡ u32_at «data».now at }
-{
-    u32::from_be_bytes([data[at], data[at + 1], data[at + 2], data[at + 3]])
 }
