@@ -1,5 +1,5 @@
 -- A header read field by field is the one that its bytes say.
-use Rattle.std.proofs.Common.{◌≡◌, ℕ, ◌+◌, ◌<◌, ◌≤◌, leb, List, length, get_or, take, drop, Ok, Err, MatchBool, Result, refl, ap, ◌∙◌, arith, le-leb}
+use Rattle.std.proofs.Common.{◌≡◌, ℕ, ◌+◌, ◌<◌, ◌≤◌, leb, List, length, get_or, take, drop, Ok, Err, MatchBool, Result, refl, ap, ◌∙◌, arith}
 use borrow.Author.Tests.{lt-leb}
 use Rattle.std.proofs.lemmas.List.{drop-drop, get_or-drop, get_or-take, length-drop}
 use Rattle.binary.specs.Bytes.{u16_at, u16_said, u32_at, u32_said}

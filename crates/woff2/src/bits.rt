@@ -27,10 +27,8 @@ impl<'a> BitSlice<'a> {
 fn bit_at(bytes: &[u8], index: usize) -> Option<bool>
     ensures { result ≡ slice_get (bits bytes.now) index }
 {
-    if index / 8 >= bytes.len() {
-        return None;
-    }
-    Some(bit(bytes[index / 8], index % 8))
+    let byte = bytes.get(index / 8)?;
+    Some(bit(*byte, index % 8))
 }
 
 // The bit of a byte, counted from the highest.
@@ -38,15 +36,5 @@ fn bit(byte: u8, place: usize) -> bool
     requires { place < 8 }
     ensures { Some result ≡ slice_get (bits_of byte) place }
 {
-    let value = match place {
-        0 => 128,
-        1 => 64,
-        2 => 32,
-        3 => 16,
-        4 => 8,
-        5 => 4,
-        6 => 2,
-        _ => 1,
-    };
-    byte / value % 2 == 1
+    (byte >> (7 - place)) & 1 == 1
 }
