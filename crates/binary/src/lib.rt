@@ -20,10 +20,10 @@ pub enum I16Be {}
 pub enum U32Be {}
 
 /// A signed number of 16 bits, 14 of them a fraction: the raw bits.
-#[derive(Clone, Copy, PartialEq, Eq)]
+#[derive(Clone, Copy, PartialEq, Eq, Default)]
 pub struct F2Dot14(pub i16);
 
-#[derive(Clone, Copy, PartialEq, Eq)]
+#[derive(Clone, Copy, PartialEq, Eq, Default)]
 pub struct BoundingBox {
     pub x_min: i16,
     pub y_min: i16,
@@ -32,7 +32,7 @@ pub struct BoundingBox {
 }
 
 /// A full horizontal metric: the advance, and the left side bearing.
-#[derive(Clone, Copy, PartialEq, Eq)]
+#[derive(Clone, Copy, PartialEq, Eq, Default)]
 pub struct LongHorMetric {
     pub advance_width: u16,
     pub lsb: i16,

@@ -3,4 +3,6 @@ pub mod Causes
 pub mod Glyphs
 pub mod Laying
 pub mod Outlines
+pub mod Parts
 pub mod Records
+pub mod Views

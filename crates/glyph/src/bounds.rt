@@ -10,12 +10,7 @@ pub fn bounding_box(points: &[Point]) -> BoundingBox
     ensures { result ≡ bounds points.now }
 {
     if points.is_empty() {
-        return BoundingBox {
-            x_min: 0,
-            y_min: 0,
-            x_max: 0,
-            y_max: 0,
-        };
+        return BoundingBox::default();
     }
     around(points, points[0])
 }

@@ -11,8 +11,9 @@ pub enum CompositeGlyphArgument {
 }
 
 /// How a component is scaled.
-#[derive(Clone, Copy)]
+#[derive(Clone, Copy, Default)]
 pub enum CompositeGlyphScale {
+    #[default]
     None,
     Scale(F2Dot14),
     XY {

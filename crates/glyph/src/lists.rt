@@ -3,29 +3,39 @@ use crate::component::Component;
 use binary::{BoundingBox, LongHorMetric};
 
 /// A point, by its position and not by the step from the point before.
-#[derive(Clone, Copy)]
+#[derive(Clone, Copy, Default)]
 pub struct Point {
     pub x: i16,
     pub y: i16,
     pub on_curve: bool,
 }
 
-#[derive(Clone, Copy)]
+impl Point {
+    /// The first point is a pair of steps from here.
+    pub const ORIGIN: Point = Point {
+        x: 0,
+        y: 0,
+        on_curve: true,
+    };
+}
+
+#[derive(Clone, Copy, Default)]
 pub enum GlyphKind {
+    #[default]
     Empty,
     Simple,
     Composite,
 }
 
 /// A part of a list: where it begins, and how many places it has.
-#[derive(Clone, Copy)]
+#[derive(Clone, Copy, Default)]
 pub struct Part {
     pub start: u32,
     pub len: u32,
 }
 
 /// A glyph, by its kind, its box, and the parts of the lists that are its own.
-#[derive(Clone, Copy)]
+#[derive(Clone, Copy, Default)]
 pub struct GlyphRecord {
     pub kind: GlyphKind,
     pub bbox: BoundingBox,

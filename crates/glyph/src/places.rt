@@ -1,7 +1,7 @@
 //! Places in the lists.
 
 /// The first place of each list that no glyph has yet.
-#[derive(Clone, Copy)]
+#[derive(Clone, Copy, Default)]
 pub struct Places {
     pub ends: u32,
     pub points: u32,

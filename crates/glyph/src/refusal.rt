@@ -38,11 +38,8 @@ impl Cause {
 pub fn at_glyph<T>(index: u16, read: Result<T, ParseError>) -> Result<T, Refusal>
     ensures { result ≡ at_glyph index read }
 {
-    match read {
-        Ok(value) => Ok(value),
-        Err(error) => Err(Refusal {
-            cause: Cause::Parse(error),
-            glyph: index,
-        }),
-    }
+    read.map_err(|error| Refusal {
+        cause: Cause::Parse(error),
+        glyph: index,
+    })
 }

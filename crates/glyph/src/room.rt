@@ -1,12 +1,19 @@
 //! Whether the lists have room.
-ghost use Rattle.std.specs.Prelude.{◌≡◌, min, nat_le};
-ghost use Rattle.glyph.specs.Records.{room_for};
+ghost use Rattle.std.specs.Prelude.{◌≡◌};
+ghost use Rattle.glyph.specs.Records.{places, room_for};
 
 use crate::lists::Lists;
 use crate::places::Places;
 
 /// At most this many places of a list are used, however long it is.
 pub const MOST_PLACES: usize = 16_777_216;
+
+/// How many places of a list are used.
+pub fn places_of<T>(list: &[T]) -> usize
+    ensures { result ≡ places list.now }
+{
+    MOST_PLACES.min(list.len())
+}
 
 impl Lists {
     /// Whether the lists have places for so many glyphs and all that they need.
@@ -20,15 +27,9 @@ impl Lists {
 fn room(lists: &Lists, glyphs: u16, needed: Places) -> bool
     ensures { result ≡ room_for glyphs needed lists.now }
 {
-    fits(usize::from(glyphs), lists.records.len())
-        && fits(needed.ends as usize, lists.ends.len())
-        && fits(needed.points as usize, lists.points.len())
-        && fits(needed.components as usize, lists.components.len())
-        && fits(needed.instructions as usize, lists.instructions.len())
-}
-
-fn fits(needed: usize, len: usize) -> bool
-    ensures { result ≡ nat_le needed (min 16777216 len) }
-{
-    needed <= MOST_PLACES.min(len)
+    usize::from(glyphs) <= places_of(&lists.records)
+        && needed.ends as usize <= places_of(&lists.ends)
+        && needed.points as usize <= places_of(&lists.points)
+        && needed.components as usize <= places_of(&lists.components)
+        && needed.instructions as usize <= places_of(&lists.instructions)
 }
