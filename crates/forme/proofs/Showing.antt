@@ -9,9 +9,11 @@ use Rattle.glyph.specs.declared.lists.Lists.{Lists}
 use Rattle.glyph.specs.declared.places.Places.{Places}
 use Rattle.unpack.proofs.Runs.{behind_all, needed_behind}
 use Rattle.forme.specs.Held.{Holds, Shows, ShowsGlyph}
-use Rattle.forme.specs.Views.{Asked, held, inside, parts_inside, Shown, Viewed}
+use Rattle.glyph.specs.Parts.{held, inside}
+use Rattle.glyph.specs.Views.{parts_inside, Shown, Viewed}
+use Rattle.forme.specs.Views.{Asked}
 use Rattle.forme.specs.declared.forme.Forme.{Forme}
-use Rattle.forme.specs.declared.view.GlyphView.{GlyphView}
+use Rattle.glyph.specs.declared.view.GlyphView.{GlyphView}
 
 -- The place of a glyph: the glyphs before it, itself, and those behind.
 split : (gs : List Glyph) (i : ℕ) (g : Glyph) → slice_get gs i ≡ Some g → (before : List Glyph) × (after : List Glyph) × (gs ≡ before ++ g ∷ after) × (length before ≡ i)

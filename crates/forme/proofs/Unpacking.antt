@@ -57,7 +57,7 @@ module _ (bs : List ℕ) (f f' : Forme) (ls ls' : Lists) where
               said_is_spelled bs gs a.0,
               a.1,
               filled_holds gs f' ls ls' (ap (λ (x : Forme). x.glyphs) h.1) h.2,
-              ap (λ (x : Forme). x.fitted) h.1,
+              ap (λ (x : Forme). x.metrics) h.1,
               h.2,
             ));
         as_found = (λ e err. let k = h.0 in let z : ◌≡◌ {A = ℕ} 0 1 = cc in absurd (omega arith));

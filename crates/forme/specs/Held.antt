@@ -5,7 +5,7 @@ use Rattle.glyph.specs.Glyphs.{box_of, components_of, ends_of, Glyph, instructio
 use Rattle.glyph.specs.Records.{records_of, start}
 use Rattle.glyph.specs.declared.lists.Lists.{Lists}
 use Rattle.forme.specs.declared.forme.Forme.{Forme}
-use Rattle.forme.specs.declared.view.GlyphView.{GlyphView}
+use Rattle.glyph.specs.declared.view.GlyphView.{GlyphView}
 
 -- As many as the forme counts, laid from place 0 on without gaps in each list.
 pub record Holds (f : Forme) (ls : Lists) (gs : List Glyph) : Type 0 where

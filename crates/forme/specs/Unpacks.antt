@@ -1,5 +1,5 @@
 -- What unpack does.
-use Rattle.std.specs.Prelude.{◌≡◌, ℕ, true, false, List, length, Ok, Err, Result, MatchResult}
+use Rattle.std.specs.Prelude.{◌≡◌, ℕ, true, List, length, None, Ok, Err, Result, MatchResult}
 use Rattle.glyph.specs.Glyphs.{Glyph}
 use Rattle.glyph.specs.Records.{Fills, has_room}
 use Rattle.glyph.specs.declared.lists.Lists.{Lists}
@@ -23,6 +23,6 @@ pub record AcceptsTheSpelled (bs : List ℕ) (f : Forme) (ls : Lists) (r : Resul
   -- One that is spelled and has room is accepted.
   pub accepted : (gs : List Glyph) → Spells bs gs → has_room gs ls ≡ true → r ≡ Ok tt
   -- Accepted, the forme holds the glyphs that the table spells, unfitted, and no place behind them is changed.
-  pub held : r ≡ Ok tt → (gs : List Glyph) × Spells bs gs × (has_room gs ls ≡ true) × Holds f' ls' gs × (f'.fitted ≡ false) × Fills gs ls ls'
+  pub held : r ≡ Ok tt → (gs : List Glyph) × Spells bs gs × (has_room gs ls ≡ true) × Holds f' ls' gs × (f'.metrics ≡ None) × Fills gs ls ls'
   -- Refused, forme and lists are as found.
   pub as_found : (e : Refusal) → r ≡ Err e → (f' ≡ f) × (ls' ≡ ls)

@@ -1,39 +1,10 @@
 -- What a question shows of a glyph.
-use Rattle.std.specs.Prelude.{◌≡◌, ℕ, ◌+◌, Bool, List, length, take, drop, None, vec_items, MatchBool, Option, MatchOption, nat_le, nat_lt}
+use Rattle.std.specs.Prelude.{◌≡◌, ℕ, None, vec_items, MatchBool, Option, MatchOption, nat_lt}
 use Rattle.std.specs.List.{slice_get}
-use Rattle.read.specs.Tests.{both}
+use Rattle.glyph.specs.Views.{Shown}
 use Rattle.forme.specs.declared.forme.Forme.{Forme}
-use Rattle.glyph.specs.declared.lists.GlyphRecord.{GlyphRecord}
 use Rattle.glyph.specs.declared.lists.Lists.{Lists}
-use Rattle.glyph.specs.declared.lists.Part.{Part}
-use Rattle.forme.specs.declared.view.GlyphView.{GlyphView}
-
--- A part lies inside a list; what it holds there.
-abbrev pub inside : {A : Type 0} → Part → List A → Bool
-inside p xs = nat_le (p.start + p.len) (length xs)
-
-abbrev pub held : {A : Type 0} → Part → List A → List A
-held p xs = take p.len (drop p.start xs)
-
--- All parts of a glyph lie inside their lists.
-abbrev pub parts_inside : GlyphRecord → Lists → Bool
-parts_inside r ls =
-    both (inside r.ends (vec_items ls.ends))
-    (both (inside r.points (vec_items ls.points))
-    (both (inside r.components (vec_items ls.components)) (inside r.instructions (vec_items ls.instructions))))
-
--- A view of a glyph shows what its record says, and its parts of the lists.
-pub record Viewed (r : GlyphRecord) (ls : Lists) (v : GlyphView) : Type 0 where
-  pub kind : v.kind ≡ r.kind
-  pub bbox : v.bbox ≡ r.bbox
-  pub ends : v.ends.now ≡ held r.ends (vec_items ls.ends)
-  pub points : v.points.now ≡ held r.points (vec_items ls.points)
-  pub components : v.components.now ≡ held r.components (vec_items ls.components)
-  pub instructions : v.instructions.now ≡ held r.instructions (vec_items ls.instructions)
-
--- What is shown of a record: its glyph, or nothing where a part of it lies outside its list.
-abbrev pub Shown : GlyphRecord → Lists → Option GlyphView → Type 0
-Shown r ls o = MatchBool (parts_inside r ls) (MatchOption o ⊥ (λ v. Viewed r ls v)) (o ≡ None)
+use Rattle.glyph.specs.declared.view.GlyphView.{GlyphView}
 
 -- Glyph `i` of a forme is absent past its last glyph, past the records, or where a part of it lies outside its list.
 abbrev pub Asked : Forme → Lists → ℕ → Option GlyphView → Type 0

@@ -7,7 +7,12 @@ ghost use Rattle.std.specs.Prelude.{◌≡◌};
 #[derive(Drop)]
 pub struct Forme {
     pub(crate) glyphs: u32,
-    pub(crate) fitted: bool,
+    pub(crate) metrics: Option<Metrics>,
+}
+
+/// How many full metrics there are, and how many bearings behind them.
+#[derive(Clone, Copy)]
+pub(crate) struct Metrics {
     pub(crate) full: u32,
     pub(crate) tail: u32,
 }
@@ -19,9 +24,7 @@ impl Forme {
     {
         Forme {
             glyphs: 0,
-            fitted: false,
-            full: 0,
-            tail: 0,
+            metrics: None,
         }
     }
 

@@ -6,4 +6,4 @@ mod transformed;
 mod view;
 
 pub use forme::Forme;
-pub use view::GlyphView;
+pub use glyph::GlyphView;

@@ -25,9 +25,7 @@ fn unpack_into(forme: &mut Forme, table: &[u8], lists: &mut Lists) -> Result<(),
     let glyphs = read_table(table, lists)?;
     *forme = Forme {
         glyphs: u32::from(glyphs),
-        fitted: false,
-        full: 0,
-        tail: 0,
+        metrics: None,
     };
     Ok(())
 }

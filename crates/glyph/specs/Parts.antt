@@ -2,7 +2,7 @@
 use Rattle.std.specs.Prelude.{ℕ, ◌+◌, Bool, List, length, take, drop, nat_le}
 use Rattle.glyph.specs.declared.lists.Part.{Part}
 
--- Where a part ends.
+-- The first place behind a part.
 abbrev pub end : Part → ℕ
 end p = p.start + p.len
 

@@ -4,6 +4,7 @@ use Rattle.std.proofs.lemmas.List.{length-map, length-take}
 use Rattle.std.specs.List.{flat_map, AllByRecursion}
 use Rattle.binary.specs.declared.BoundingBox.{BoundingBox}
 use Rattle.glyph.specs.Glyphs.{box_of, components_of, ends_of, Glyph, instructions_of, kind_of, points_of}
+use Rattle.glyph.specs.Parts.{held as cut}
 use Rattle.glyph.specs.Records.{behind, part, places, record_of, records_of, start}
 use Rattle.glyph.specs.declared.component.Component.{Component}
 use Rattle.glyph.specs.declared.lists.GlyphKind.{GlyphKind}
@@ -15,7 +16,7 @@ use Rattle.glyph.specs.declared.places.Places.{Places}
 use Rattle.read.proofs.Tests.{both_from, both_true}
 use Rattle.held.specs.Held.{ListsHold, TellsHeld}
 use Rattle.held.specs.Sound.{Sound}
-use Rattle.held.specs.Tests.{cut, glyph_sound, held, lies, parts_lie, past, record_held, records_held}
+use Rattle.held.specs.Tests.{glyph_sound, held, lies, parts_lie, past, record_held, records_held}
 use Rattle.held.proofs.Lying.{Lies, lies_join, lies_passes, lies_split, part_lies}
 use Rattle.held.proofs.Rules.{glyph_again, glyph_by, passed, passes}
 

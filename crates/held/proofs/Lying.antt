@@ -1,10 +1,11 @@
 -- What lies in a list from a place on.
 use Rattle.std.proofs.Common.{◌≡◌, ℕ, ◌+◌, ◌≤◌, true, eqb, leb, List, ◌++◌, length, take, drop, sym, refl, ap, ◌∙◌, arith, eq-eqb, eqb-true, le-leb, leb-true}
 use Rattle.std.proofs.lemmas.List.{append_assoc, drop_at, drop-drop, length-append, length-drop, length-take, take-append-drop, take_at}
+use Rattle.glyph.specs.Parts.{end, held as cut}
 use Rattle.glyph.specs.Records.{part, places}
 use Rattle.glyph.specs.declared.lists.Part.{Part}
 use Rattle.read.proofs.Tests.{both_from, both_true}
-use Rattle.held.specs.Tests.{cut, end, lies}
+use Rattle.held.specs.Tests.{lies}
 
 -- Values lie in a list from a place on, within the places that count.
 abbrev pub Lies : {A : Type 0} → ℕ → List A → List A → Type 0

@@ -1,8 +1,8 @@
 -- The tests of a glyph pass exactly where its rules hold.
-use Rattle.std.proofs.Common.{◌≡◌, ℕ, zero, suc, Bool, true, false, eqb, leb, List, [], ◌∷◌, length, ℤ, pos, negsuc, ◌-ℤ◌, sym, refl, ap, ◌∙◌, arith, eq-eqb, eqb-true, le-leb, leb-true}
+use Rattle.std.proofs.Common.{◌≡◌, ℕ, zero, suc, Bool, true, false, ◌&&◌, ◌||◌, eqb, leb, List, [], ◌∷◌, length, ℤ, pos, negsuc, ◌-ℤ◌, sym, refl, ap, ◌∙◌, arith, eq-eqb, eqb-true, le-leb, leb-true}
 use Rattle.std.proofs.lemmas.List.{nil_from_length}
 use Rattle.std.proofs.lemmas.Bool.{not_from_false, not-true}
-use Rattle.std.specs.List.{AllByRecursion}
+use Rattle.std.specs.List.{AllByRecursion, list_all, list_any}
 use Rattle.binary.specs.declared.BoundingBox.{BoundingBox}
 use Rattle.composite.specs.Chains.{Chained, marked}
 use Rattle.composite.specs.Components.{has}
@@ -16,7 +16,7 @@ use Rattle.glyph.specs.declared.lists.Point.{Point}
 use Rattle.read.proofs.Tests.{both_from, both_true}
 use Rattle.read.specs.Tests.{either}
 use Rattle.held.specs.Sound.{component_sound, Sound, StepsInRange}
-use Rattle.held.specs.Tests.{box_zero, chained_on, each_sound, glyph_sound, is_zero, none, outline_sound, step_fits, steps_fit}
+use Rattle.held.specs.Tests.{box_zero, chained_on, glyph_sound, is_zero, none, outline_sound, step_fits, steps_fit}
 
 steps_ok : (last : Point) (ps : List Point) → steps_fit last ps ≡ true → StepsInRange last ps
 steps_ok last [] h = tt
@@ -48,13 +48,28 @@ chained_at (c ∷ (d ∷ cs)) h =
 abbrev Fits : Component → Type 0
 Fits c = component_sound c ≡ true
 
-each_ok : (cs : List Component) → each_sound cs ≡ true → AllByRecursion Fits cs
-each_ok [] h = tt
-each_ok (c ∷ cs) h = let b = both_true (component_sound c) (each_sound cs) h in (b.0, each_ok cs b.1)
+and_true : (a b : Bool) → (a && b) ≡ true → (a ≡ true) × (b ≡ true)
+and_true true b h = (refl, h)
+and_true false b h = let z : ◌≡◌ {A = ℕ} 0 1 = cc in absurd (omega arith)
 
-each_at : (cs : List Component) → AllByRecursion Fits cs → each_sound cs ≡ true
+each_ok : (cs : List Component) → list_all component_sound cs ≡ true → AllByRecursion Fits cs
+each_ok [] h = tt
+each_ok (c ∷ cs) h = let b = and_true (component_sound c) (list_all component_sound cs) h in (b.0, each_ok cs b.1)
+
+each_at : (cs : List Component) → AllByRecursion Fits cs → list_all component_sound cs ≡ true
 each_at [] h = refl
-each_at (c ∷ cs) h = both_from (component_sound c) (each_sound cs) h.0 (each_at cs h.1)
+each_at (c ∷ cs) h = rw h.0 (each_at cs h.1)
+
+abbrev marks : Component → Bool
+marks c = has c.flags 0x0100
+
+or_either : (a b c : Bool) → b ≡ c → (a || b) ≡ either a c
+or_either true b c e = refl
+or_either false b c e = e
+
+any_marked : (cs : List Component) → list_any marks cs ≡ marked cs
+any_marked [] = refl
+any_marked (c ∷ cs) = or_either (marks c) (list_any marks cs) (marked cs) (any_marked cs)
 
 none_ok : {A : Type 0} (xs : List A) → none xs ≡ true → [] ≡ xs
 none_ok xs h = sym (nil_from_length xs (eqb-true (length xs) 0 h))
@@ -139,8 +154,8 @@ passed Composite b es ps cs hs h =
     let h0 = both_true (none es) _ h in
     let h1 = both_true (none ps) _ h0.1 in
     let h2 = both_true (chained_on true cs) _ h1.1 in
-    let h3 = both_true (each_sound cs) _ h2.1 in
-    let h4 = both_true (leb (length hs) 65535) (either (marked cs) (none hs)) h3.1 in
+    let h3 = both_true (list_all component_sound cs) _ h2.1 in
+    let h4 = both_true (leb (length hs) 65535) (either (list_any marks cs) (none hs)) h3.1 in
     record {
       kind_is = refl;
       box_is = refl;
@@ -152,7 +167,7 @@ passed Composite b es ps cs hs h =
         chained = chained_ok cs h2.0;
         each = each_ok cs h3.0;
         instructions = leb-true (length hs) 65535 h4.0;
-        unmarked = unmarked_ok (marked cs) hs h4.1;
+        unmarked = (λ e. unmarked_ok (list_any marks cs) hs h4.1 (any_marked cs ∙ e));
       };
     }
 
@@ -166,8 +181,8 @@ passes (simple b es ps hs) s =
     (le-leb (length hs) 65535 s.instructions)
 passes (composite b cs hs) s =
     both_from (chained_on true cs) _ (chained_at cs s.chained)
-    (both_from (each_sound cs) _ (each_at cs s.each)
-    (both_from (leb (length hs) 65535) (either (marked cs) (none hs)) (le-leb (length hs) 65535 s.instructions) (unmarked_at (marked cs) hs s.unmarked)))
+    (both_from (list_all component_sound cs) _ (each_at cs s.each)
+    (both_from (leb (length hs) 65535) (either (list_any marks cs) (none hs)) (le-leb (length hs) 65535 s.instructions) (unmarked_at (list_any marks cs) hs (λ e. s.unmarked (sym (any_marked cs) ∙ e)))))
 
 pub glyph_again : (g : Glyph) → glyph_by (kind_of g) (box_of g) (ends_of g) (points_of g) (components_of g) (instructions_of g) ≡ g
 glyph_again empty = refl

@@ -1,7 +1,7 @@
 -- A test of a list, element by element: what is left of the list says what the whole says.
 use Rattle.std.proofs.Common.{◌≡◌, ℕ, ◌+◌, ◌<◌, ◌≤◌, Bool, true, false, List, [], ◌∷◌, length, get_or, drop, sym, ap, ◌∙◌}
 use Rattle.std.proofs.lemmas.List.{at_drop_all, at_drop_more}
-use Rattle.read.specs.Tests.{both, either}
+use Rattle.read.specs.Tests.{both}
 
 module _
     {X : Type 0}
@@ -30,16 +30,3 @@ module _
 
 pub ends : {X : Type 0} (F : List X → Bool) (xs : List X) (i : ℕ) (whole : Bool) → whole ≡ F (drop i xs) → length xs ≤ i → F [] ≡ whole
 ends F xs i whole inv low = sym (inv ∙ at_drop_all F xs i low)
-
-module _ {X : Type 0} (F : List X → Bool) (test : X → Bool) (turn : (x : X) (xs : List X) → F (x ∷ xs) ≡ either (test x) (F xs)) (xs : List X) (i : ℕ) (d : X) (low : i < length xs) (whole : Bool) (inv : whole ≡ F (drop i xs)) where
-  at_find : (b : Bool) → b ≡ test (get_or xs i d) → whole ≡ either b (F (drop (i + 1) xs))
-  at_find b e =
-      inv
-      ∙ (at_drop_more F xs i d low
-      ∙ (turn (get_or xs i d) (drop (i + 1) xs) ∙ ap (λ (t : Bool). either t (F (drop (i + 1) xs))) (sym e)))
-
-  pub found : true ≡ test (get_or xs i d) → true ≡ whole
-  found e = sym (at_find true e)
-
-  pub not_found : false ≡ test (get_or xs i d) → whole ≡ F (drop (i + 1) xs)
-  not_found e = at_find false e

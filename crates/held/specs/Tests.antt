@@ -1,9 +1,10 @@
 -- The test whether lists hold glyphs, record by record.
-use Rattle.std.specs.Prelude.{ℕ, zero, suc, ◌+◌, Bool, true, false, not, List, [], ◌∷◌, length, take, drop, ℤ, pos, negsuc, ◌-ℤ◌, vec_items, ◌==◌, nat_le}
+use Rattle.std.specs.Prelude.{ℕ, zero, suc, Bool, true, false, not, List, [], ◌∷◌, length, take, ℤ, pos, negsuc, ◌-ℤ◌, vec_items, ◌==◌, nat_le}
+use Rattle.std.specs.List.{list_all, list_any}
 use Rattle.binary.specs.declared.BoundingBox.{BoundingBox}
-use Rattle.composite.specs.Chains.{marked}
 use Rattle.composite.specs.Components.{has}
 use Rattle.glyph.specs.Outlines.{origin, placed, points_in}
+use Rattle.glyph.specs.Parts.{end, held as cut}
 use Rattle.glyph.specs.Records.{places, start}
 use Rattle.glyph.specs.declared.component.Component.{Component}
 use Rattle.glyph.specs.declared.lists.GlyphKind.{GlyphKind}
@@ -32,14 +33,10 @@ abbrev pub chained_on : Bool → List Component → Bool
 chained_on more [] = not more
 chained_on more (c ∷ cs) = both more (chained_on (has c.flags 0x0020) cs)
 
-abbrev pub each_sound : List Component → Bool
-each_sound [] = true
-each_sound (c ∷ cs) = both (component_sound c) (each_sound cs)
-
 abbrev pub parts_sound : List Component → List ℕ → Bool
 parts_sound parts hints =
     both (chained_on true parts)
-    (both (each_sound parts) (both (nat_le (length hints) 65535) (either (marked parts) (length hints == 0))))
+    (both (list_all component_sound parts) (both (nat_le (length hints) 65535) (either (list_any (λ c. has c.flags 0x0100) parts) (length hints == 0))))
 
 abbrev pub is_zero : ℤ → Bool
 is_zero (pos zero) = true
@@ -61,12 +58,9 @@ glyph_sound Simple box ends points parts hints =
     both (none parts) (both (outline_sound ends points) (nat_le (length hints) 65535))
 glyph_sound Composite box ends points parts hints = both (none ends) (both (none points) (parts_sound parts hints))
 
--- A part of a list begins at a place and lies inside; what it holds.
+-- A part of a list begins at a place and lies inside.
 abbrev pub lies : {A : Type 0} → ℕ → Part → List A → Bool
-lies at p xs = both (p.start == at) (nat_le (p.start + p.len) (places xs))
-
-abbrev pub cut : {A : Type 0} → Part → List A → List A
-cut p xs = take p.len (drop p.start xs)
+lies at p xs = both (p.start == at) (nat_le (end p) (places xs))
 
 abbrev pub parts_lie : Places → GlyphRecord → Lists → Bool
 parts_lie at r ls =
@@ -79,9 +73,6 @@ abbrev pub record_held : Places → GlyphRecord → Lists → Bool
 record_held at r ls =
     both (parts_lie at r ls)
     (glyph_sound r.kind r.bbox (cut r.ends (vec_items ls.ends)) (cut r.points (vec_items ls.points)) (cut r.components (vec_items ls.components)) (cut r.instructions (vec_items ls.instructions)))
-
-abbrev pub end : Part → ℕ
-end p = p.start + p.len
 
 -- The first free places behind the glyph of a record.
 abbrev pub past : GlyphRecord → Places

@@ -1,8 +1,8 @@
 //! The rules for the components of a composite glyph.
-ghost use Rattle.composite.specs.Chains.{marked};
 ghost use Rattle.composite.specs.Components.{has};
 ghost use Rattle.held.specs.Sound.{argument_fits, component_sound, scale_fits};
-ghost use Rattle.held.specs.Tests.{chained_on, each_sound, parts_sound};
+ghost use Rattle.held.specs.Tests.{chained_on, parts_sound};
+ghost use Rattle.std.specs.List.{list_all, list_any};
 ghost use Rattle.std.specs.Prelude.{◌≡◌, true};
 
 use composite::{
@@ -70,25 +70,19 @@ fn chained(components: &[Component]) -> bool
 }
 
 fn marked(components: &[Component]) -> bool
-    ensures { result ≡ marked components.now }
+    ensures { result ≡ list_any (λ c. has c.flags 0x0100) components.now }
 {
-    for component in components {
-        if is_set(component.flags, WE_HAVE_INSTRUCTIONS) {
-            return true;
-        }
-    }
-    false
+    components
+        .iter()
+        .any(|component| is_set(component.flags, WE_HAVE_INSTRUCTIONS))
 }
 
 fn each_sound(components: &[Component]) -> bool
-    ensures { result ≡ each_sound components.now }
+    ensures { result ≡ list_all component_sound components.now }
 {
-    for component in components {
-        if !component_sound(*component) {
-            return false;
-        }
-    }
-    true
+    components
+        .iter()
+        .all(|component| component_sound(*component))
 }
 
 /// Whether components and instructions are those of a composite glyph.

@@ -7,10 +7,10 @@ use glyph::Lists;
 fn edge_at(lists: &Lists, index: usize) -> i16
     ensures { result ≡ left_edge lists.now index }
 {
-    if index >= lists.records.len() {
-        return 0;
-    }
-    lists.records[index].bbox.x_min
+    lists
+        .records
+        .get(index)
+        .map_or(0, |glyph_record| glyph_record.bbox.x_min)
 }
 
 fn edge_told(lists: &Lists, index: usize) -> i16

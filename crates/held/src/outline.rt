@@ -20,11 +20,7 @@ fn step_fits(last: Point, point: Point) -> bool
 fn steps_fit(points: &[Point]) -> bool
     ensures { result ≡ steps_fit origin points.now }
 {
-    let mut last = Point {
-        x: 0,
-        y: 0,
-        on_curve: true,
-    };
+    let mut last = Point::ORIGIN;
     for point in points {
         if !step_fits(last, *point) {
             return false;
@@ -37,10 +33,7 @@ fn steps_fit(points: &[Point]) -> bool
 fn points_in(ends: &[u16]) -> usize
     ensures { result ≡ points_in ends.now }
 {
-    if ends.is_empty() {
-        return 0;
-    }
-    usize::from(ends[ends.len() - 1]) + 1
+    ends.last().map_or(0, |end| usize::from(*end) + 1)
 }
 
 /// Whether there are as many points as the ends say, at most 32767 ends, and steps in range.

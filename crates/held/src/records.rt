@@ -1,93 +1,63 @@
 //! The records of glyphs that lie one behind the other.
-ghost use Rattle.std.specs.Prelude.{◌≡◌, ◌+◌, ◌^◌, ◌<◌, ◌≤◌, true, length, None, MatchBool, MatchOption};
-ghost use Rattle.glyph.specs.Records.{places, start};
+ghost use Rattle.std.specs.Prelude.{◌≡◌, ◌^◌, ◌<◌};
+ghost use Rattle.glyph.specs.Parts.{end};
+ghost use Rattle.glyph.specs.Records.{start};
 ghost use Rattle.held.specs.Held.{TellsHeld};
-ghost use Rattle.held.specs.Tests.{box_zero, cut, end, glyph_sound, held, lies, past, record_held, records_held};
+ghost use Rattle.held.specs.Tests.{glyph_sound, held, lies, parts_lie, past, record_held, records_held};
 
 use crate::components::parts_sound;
 use crate::outline::outline_sound;
 use binary::BoundingBox;
-use glyph::{Component, GlyphKind, GlyphRecord, Lists, MOST_PLACES, Part, Places, Point};
+use glyph::{GlyphKind, GlyphRecord, GlyphView, Lists, Part, Places, places_of};
 
-fn box_zero(bbox: BoundingBox) -> bool
-    ensures { result ≡ box_zero bbox }
+fn glyph_sound(glyph: GlyphView<'_>) -> bool
+    ensures { result ≡ glyph_sound glyph.entry.kind glyph.entry.bbox glyph.entry.ends.now glyph.entry.points.now glyph.entry.components.now glyph.entry.instructions.now }
 {
-    bbox.x_min == 0 && bbox.y_min == 0 && bbox.x_max == 0 && bbox.y_max == 0
-}
-
-fn glyph_sound(
-    kind: GlyphKind,
-    bbox: BoundingBox,
-    ends: &[u16],
-    points: &[Point],
-    components: &[Component],
-    hints: &[u8],
-) -> bool
-    ensures { result ≡ glyph_sound kind bbox ends.now points.now components.now hints.now }
-{
-    match kind {
+    match glyph.kind {
         GlyphKind::Empty => {
-            box_zero(bbox)
-                && ends.is_empty()
-                && points.is_empty()
-                && components.is_empty()
-                && hints.is_empty()
+            glyph.bbox == BoundingBox::default()
+                && glyph.ends.is_empty()
+                && glyph.points.is_empty()
+                && glyph.components.is_empty()
+                && glyph.instructions.is_empty()
         }
         GlyphKind::Simple => {
-            components.is_empty() && outline_sound(ends, points) && hints.len() <= 65535
+            glyph.components.is_empty()
+                && outline_sound(glyph.ends, glyph.points)
+                && glyph.instructions.len() <= 65535
         }
         GlyphKind::Composite => {
-            ends.is_empty() && points.is_empty() && parts_sound(components, hints)
+            glyph.ends.is_empty()
+                && glyph.points.is_empty()
+                && parts_sound(glyph.components, glyph.instructions)
         }
     }
 }
 
-// A part that begins at a place and lies inside its list.
-fn part_at<'a, T>(list: &'a [T], at: u32, part: Part) -> Option<&'a [T]>
-    ensures { MatchBool (lies at part list.now) (MatchOption result ⊥ (λ s. s.now ≡ cut part list.now)) (result ≡ None) }
+// A part begins at a place and lies inside a list.
+fn lies<T>(at: u32, part: Part, list: &[T]) -> bool
+    ensures { result ≡ lies at part list.now }
 {
-    let start = part.start as usize;
-    let end = start + part.len as usize;
-    if part.start != at || end > MOST_PLACES.min(list.len()) {
-        return None;
-    }
-    Some(&list[start..end])
+    part.start == at && part.end() <= places_of(list)
+}
+
+fn parts_lie(at: Places, glyph_record: GlyphRecord, lists: &Lists) -> bool
+    ensures { result ≡ parts_lie at glyph_record lists.now }
+{
+    lies(at.ends, glyph_record.ends, &lists.ends)
+        && lies(at.points, glyph_record.points, &lists.points)
+        && lies(at.components, glyph_record.components, &lists.components)
+        && lies(
+            at.instructions,
+            glyph_record.instructions,
+            &lists.instructions,
+        )
 }
 
 fn record_held(at: Places, glyph_record: GlyphRecord, lists: &Lists) -> bool
     ensures { result ≡ record_held at glyph_record lists.now }
 {
-    let Some(ends) = part_at(&lists.ends, at.ends, glyph_record.ends) else {
-        return false;
-    };
-    let Some(points) = part_at(&lists.points, at.points, glyph_record.points) else {
-        return false;
-    };
-    let Some(components) = part_at(&lists.components, at.components, glyph_record.components) else {
-        return false;
-    };
-    let Some(hints) = part_at(
-        &lists.instructions,
-        at.instructions,
-        glyph_record.instructions,
-    ) else {
-        return false;
-    };
-    glyph_sound(
-        glyph_record.kind,
-        glyph_record.bbox,
-        ends,
-        points,
-        components,
-        hints,
-    )
-}
-
-fn end(part: Part) -> u32
-    requires { end part < 2 ^ 32 }
-    ensures { result ≡ end part }
-{
-    part.start + part.len
+    parts_lie(at, glyph_record, lists) && glyph_record.view(lists).is_some_and(glyph_sound)
 }
 
 // The first free places behind the glyph of a record.
@@ -96,22 +66,17 @@ fn past(glyph_record: GlyphRecord) -> Places
     ensures { result ≡ past glyph_record }
 {
     Places {
-        ends: end(glyph_record.ends),
-        points: end(glyph_record.points),
-        components: end(glyph_record.components),
-        instructions: end(glyph_record.instructions),
+        ends: glyph_record.ends.end() as u32,
+        points: glyph_record.points.end() as u32,
+        components: glyph_record.components.end() as u32,
+        instructions: glyph_record.instructions.end() as u32,
     }
 }
 
 fn records_held(records: &[GlyphRecord], lists: &Lists) -> bool
     ensures { result ≡ records_held start records.now lists.now }
 {
-    let mut at = Places {
-        ends: 0,
-        points: 0,
-        components: 0,
-        instructions: 0,
-    };
+    let mut at = Places::default();
     for glyph_record in records {
         if !record_held(at, *glyph_record, lists) {
             return false;
@@ -125,7 +90,7 @@ fn all_held(glyphs: u32, lists: &Lists) -> bool
     ensures { result ≡ held glyphs lists.now }
 {
     let count = glyphs as usize;
-    count <= MOST_PLACES.min(lists.records.len()) && records_held(&lists.records[..count], lists)
+    count <= places_of(&lists.records) && records_held(&lists.records[..count], lists)
 }
 
 fn told(glyphs: u32, lists: &Lists) -> bool

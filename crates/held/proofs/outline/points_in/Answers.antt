@@ -1,23 +1,27 @@
-use Rattle.std.proofs.Common.{◌≡◌, ℕ, suc, ◌+◌, ◌-◌, List, [], ◌∷◌, length, get_or, sym, refl, ap, ◌∙◌, arith, eqb-true}
-use borrow.Author.Tests.{eqb-false}
-use Rattle.std.proofs.lemmas.List.{nil_from_length}
+use Rattle.std.proofs.Common.{◌≡◌, ℕ, suc, ◌+◌, ◌-◌, List, [], ◌∷◌, length, Some, None, Bor, Option, MatchOption, refl, ap, ◌∙◌, arith, rules, of_calls}
+use Rattle.std.specs.List.{slice_get}
+use Rattle.std.specs.Option.{option_copied}
 use Rattle.glyph.specs.Outlines.{points_in}
 use Rattle.held.proofs.outline.points_in.Goals as goal
 
 -- As many points as the last end plus one.
-last_end : (es : List ℕ) → (length es ≡ 0 → ⊥) → get_or es (length es - 1) 0 + 1 ≡ points_in es
-last_end [] some = absurd (some refl)
-last_end (e ∷ []) some = omega arith
-last_end (e ∷ (f ∷ es)) some =
-    let k : length (e ∷ (f ∷ es)) - 1 ≡ suc (length (f ∷ es) - 1) = omega arith in
-    ap (λ (n : ℕ). get_or (e ∷ (f ∷ es)) n 0 + 1) k ∙ last_end (f ∷ es) (λ (z : length (f ∷ es) ≡ 0). omega arith)
+after : Option ℕ → ℕ
+after None = 0
+after (Some e) = e + 1
 
-pub returns-then-is_empty : goal.returns-then-is_empty
-returns-then-is_empty c =
-    let es = c.args.ends.now in
-    sym (ap points_in (nil_from_length es (eqb-true (length es) 0 (sym c.if-is_empty.ensures))))
+last_end : (es : List ℕ) → after (slice_get es (length es - 1)) ≡ points_in es
+unfolding after
+last_end [] = refl
+last_end (e ∷ []) = omega arith
+last_end (e ∷ (f ∷ es)) =
+    let k : length (e ∷ (f ∷ es)) - 1 ≡ suc (length (f ∷ es) - 1) = omega arith in
+    ap (λ (n : ℕ). after (slice_get (e ∷ (f ∷ es)) n)) k ∙ last_end (f ∷ es)
+
+returned : (o : Option (Bor ℕ)) (r : ℕ) (P : Bor ℕ → Type 0) → ((x : Bor ℕ) → P x → r ≡ x.now + 1) → MatchOption o (r ≡ 0) P → r ≡ after (option_copied o)
+unfolding after
+returned None r P to h = h
+returned (Some x) r P to h = to x h
 
 pub returns : goal.returns
 returns c =
-    let es = c.args.ends.now in
-    ap (λ (n : ℕ). n + 1) c.from.ensures ∙ last_end es (eqb-false (length es) 0 (sym c.if-is_empty.ensures))
+    returned c.last.result c.map_or.result _ (λ x h. search (rules, of_calls)) c.map_or.ensures ∙ (ap after c.last.ensures.value ∙ last_end c.args.ends.now)
