@@ -1,6 +1,7 @@
 -- Values laid one behind the other.
-use Rattle.std.proofs.Common.{◌≡◌, ℕ, suc, ◌+◌, ◌<◌, ◌≤◌, List, [], ◌∷◌, ◌++◌, length, get_or, take, drop, set, sym, refl, ap, ◌∙◌, arith}
-use Rattle.std.proofs.lemmas.List.{append_assoc, drop_more, get_or-set_same, get_or-take, length-append, length-set, set_at, set_past, take-set-le}
+use Rattle.std.proofs.Common.{◌≡◌, ℕ, suc, ◌+◌, ◌-◌, min, ◌<◌, ◌≤◌, List, [], ◌∷◌, ◌++◌, length, take, drop, set, sym, refl, ap, ◌∙◌, arith, zero-add}
+use Rattle.std.proofs.lemmas.List.{append_assoc, drop_at, length-drop, length-set, length-take-le, set_past, take_at, take-append-drop}
+use Rattle.std.proofs.lemmas.List.Edits.{sets, sets-eq}
 use Rattle.glyph.specs.Laying.{filled, laid}
 
 module _ {A : Type 0} where
@@ -21,43 +22,41 @@ module _ {A : Type 0} where
   laid_past at (x ∷ xs) list h =
       ap (laid (suc at) xs) (set_past list at x h) ∙ laid_past (suc at) xs list (omega arith)
 
-  -- Behind some values that stay, the next ones take the places of as many.
-  pub laid_behind : (done xs old : List A) → length xs ≤ length old → laid (length done) xs (done ++ old) ≡ done ++ filled xs old
-  laid_behind done [] old h = refl
-  laid_behind done (x ∷ xs) [] h = absurd (omega arith)
-  laid_behind done (x ∷ xs) (y ∷ old) h =
-      let put : set (done ++ y ∷ old) (length done) x ≡ done ++ x ∷ old = set_at done y old x (length done) refl in
-      let same : done ++ x ∷ old ≡ (done ++ x ∷ []) ++ old = sym (append_assoc done (x ∷ []) old) in
-      let n : suc (length done) ≡ length (done ++ x ∷ []) = omega (arith, length-append done (x ∷ [])) in
-      ap (laid (suc (length done)) xs) (put ∙ same)
-      ∙ (ap (λ (k : ℕ). laid k xs ((done ++ x ∷ []) ++ old)) n
-      ∙ (laid_behind (done ++ x ∷ []) xs old (omega arith) ∙ append_assoc done (x ∷ []) (filled xs old)))
+  -- Without a value, or past the end, nothing is stored.
+  laid_none : (at : ℕ) (xs : List A) (list : List A) → (0 < length xs → length list ≤ at) → laid at xs list ≡ list
+  laid_none at [] list h = refl
+  laid_none at (x ∷ xs) list h = laid_past at (x ∷ xs) list (h (omega arith))
+
+  laid_sets : (at : ℕ) (xs : List A) (list : List A) → laid at xs list ≡ sets list at xs
+  laid_sets at [] list = refl
+  laid_sets at (x ∷ xs) list = laid_sets (suc at) xs (set list at x)
+
+  module _ (at : ℕ) (xs : List A) (list : List A) (fits : at + length xs ≤ length list) where
+    -- Values that all have a place take the places of as many.
+    laid_in : laid at xs list ≡ take at list ++ (xs ++ drop (at + length xs) list)
+    laid_in =
+        laid_sets at xs list
+        ∙ (sets-eq xs list at fits ∙ append_assoc (take at list) xs (drop (at + length xs) list))
+
+    -- What was laid stands where it was laid.
+    pub laid_held : take (length xs) (drop at (laid at xs list)) ≡ xs
+    laid_held =
+        let rest = drop (at + length xs) list in
+        ap (λ (ys : List A). take (length xs) (drop at ys)) laid_in
+        ∙ (ap (take (length xs)) (drop_at (take at list) (xs ++ rest) at (length-take-le at list (omega arith))) ∙ take_at xs rest (length xs) refl)
+
+  -- Of any values, as many as there are places for.
+  pub laid_is : (at k : ℕ) (xs : List A) (list : List A) → at ≤ length list → k ≡ min (length xs) (length list - at) → laid at xs list ≡ take at list ++ (take k xs ++ drop (at + k) list)
+  laid_is at k xs list h e =
+      let front = take k xs in
+      let n = length-take-le k xs (omega arith) in
+      let m = length_laid at front list in
+      let d = length-drop k xs in
+      ap (λ (ys : List A). laid at ys list) (sym (take-append-drop k xs))
+      ∙ (laid_append at (at + k) front (drop k xs) list (omega arith)
+      ∙ (laid_none (at + k) (drop k xs) (laid at front list) (λ (z : 0 < length (drop k xs)). omega arith)
+      ∙ (laid_in at front list (omega arith) ∙ ap (λ (i : ℕ). take at list ++ (front ++ drop (at + i) list)) n)))
 
   -- Laid from place 0 on, values fill the list.
   pub laid_fills : (xs old : List A) → length xs ≤ length old → laid 0 xs old ≡ filled xs old
-  laid_fills xs old h = laid_behind [] xs old h
-
-  -- What was laid stands where it was laid.
-  pub laid_before : (n at : ℕ) (xs : List A) (list : List A) → n ≤ at → take n (laid at xs list) ≡ take n list
-  laid_before n at [] list h = refl
-  laid_before n at (x ∷ xs) list h =
-      laid_before n (suc at) xs (set list at x) (omega arith) ∙ take-set-le n list at x h
-
-  pub laid_held : (at : ℕ) (xs : List A) (list : List A) → at + length xs ≤ length list → take (length xs) (drop at (laid at xs list)) ≡ xs
-  laid_held at [] list h = refl
-  laid_held at (x ∷ xs) list h =
-      let put = set list at x in
-      let long : at + suc (length xs) ≤ length put = omega (arith, length-set list at x) in
-      let l = length_laid (suc at) xs put in
-      let low : at < length (laid (suc at) xs put) = omega arith in
-      let first : get_or (laid (suc at) xs put) at x ≡ x =
-      sym (get_or-take (suc at) (laid (suc at) xs put) at x (omega arith))
-      ∙ (ap (λ (ys : List A). get_or ys at x) (laid_before (suc at) (suc at) xs put (omega arith))
-      ∙ (get_or-take (suc at) put at x (omega arith) ∙ get_or-set_same list at x x (omega arith)))
-      in
-      let whole : drop at (laid (suc at) xs put) ≡ get_or (laid (suc at) xs put) at x ∷ drop (at + 1) (laid (suc at) xs put) = drop_more (laid (suc at) xs put) at x low in
-      let next : at + 1 ≡ suc at = omega arith in
-      ap (take (suc (length xs))) whole
-      ∙ (ap (λ (y : A). y ∷ take (length xs) (drop (at + 1) (laid (suc at) xs put))) first
-      ∙ (ap (λ (k : ℕ). x ∷ take (length xs) (drop k (laid (suc at) xs put))) next
-      ∙ ap (λ (ys : List A). x ∷ ys) (laid_held (suc at) xs put (omega arith))))
+  laid_fills xs old h = laid_in 0 xs old (omega arith) ∙ ap (λ (n : ℕ). xs ++ drop n old) (zero-add (length xs))

@@ -15,18 +15,14 @@ pub fn lay<T: Copy>(list: &mut [T], at: usize, value: T)
 pub fn lay_all<T: Copy>(list: &mut [T], at: usize, values: &[T])
     ensures { list.new ≡ laid at values.now list.old }
 {
-    lay_each(list, at, values);
+    lay_fitting(list, at, values);
 }
 
-fn lay_each<T: Copy>(list: &mut [T], at: usize, values: &[T])
+fn lay_fitting<T: Copy>(list: &mut [T], at: usize, values: &[T])
     ensures { list.new ≡ laid at values.now list.old }
 {
-    let mut place = at;
-    for value in values {
-        if place >= list.len() {
-            return;
-        }
-        list[place] = *value;
-        place += 1;
+    if at < list.len() {
+        let count = values.len().min(list.len() - at);
+        list[at..at + count].copy_from_slice(&values[..count]);
     }
 }
