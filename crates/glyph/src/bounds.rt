@@ -9,25 +9,22 @@ use binary::BoundingBox;
 pub fn bounding_box(points: &[Point]) -> BoundingBox
     ensures { result ≡ bounds points.now }
 {
-    if points.is_empty() {
+    let [first, ..] = points else {
         return BoundingBox::default();
-    }
-    around(points, points[0])
+    };
+    around(points, *first)
 }
 
 fn around(points: &[Point], first: Point) -> BoundingBox
     ensures { result ≡ fold grown (box_at first) points.now }
 {
-    let mut bbox = BoundingBox {
+    let bbox = BoundingBox {
         x_min: first.x,
         y_min: first.y,
         x_max: first.x,
         y_max: first.y,
     };
-    for point in points {
-        bbox = grow(bbox, *point);
-    }
-    bbox
+    points.iter().fold(bbox, |bbox, point| grow(bbox, *point))
 }
 
 fn grow(bbox: BoundingBox, point: Point) -> BoundingBox
