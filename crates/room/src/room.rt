@@ -4,7 +4,8 @@ ghost use Rattle.std.specs.Prelude.{IfOk};
 
 use crate::copies::copies;
 use crate::zero;
-use glyph::Lists;
+use binary::LongHorMetric;
+use glyph::{GlyphRecord, Lists, Point};
 use std::alloc::{AllocError, Global};
 
 /// How many places each list has.
@@ -25,12 +26,12 @@ impl Room {
         ensures { IfOk result (λ ls. Zeroed self ls) }
     {
         Ok(Lists {
-            records: copies(heap, zero::RECORD, self.records)?,
+            records: copies(heap, GlyphRecord::default(), self.records)?,
             ends: copies(heap, 0, self.ends)?,
-            points: copies(heap, zero::POINT, self.points)?,
+            points: copies(heap, Point::default(), self.points)?,
             components: copies(heap, zero::COMPONENT, self.components)?,
             instructions: copies(heap, 0, self.instructions)?,
-            full: copies(heap, zero::METRIC, self.full)?,
+            full: copies(heap, LongHorMetric::default(), self.full)?,
             tail: copies(heap, 0, self.tail)?,
         })
     }
