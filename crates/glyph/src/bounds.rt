@@ -18,13 +18,17 @@ pub fn bounding_box(points: &[Point]) -> BoundingBox
 fn around(points: &[Point], first: Point) -> BoundingBox
     ensures { result ≡ fold grown (box_at first) points.now }
 {
-    let bbox = BoundingBox {
+    let mut bbox = BoundingBox {
         x_min: first.x,
         y_min: first.y,
         x_max: first.x,
         y_max: first.y,
     };
-    points.iter().fold(bbox, |bbox, point| grow(bbox, *point))
+    // A loop and no fold: the loop is the form that this project wants here.
+    for point in points {
+        bbox = grow(bbox, *point);
+    }
+    bbox
 }
 
 fn grow(bbox: BoundingBox, point: Point) -> BoundingBox
