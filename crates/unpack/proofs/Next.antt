@@ -8,7 +8,6 @@ use Rattle.glyph.specs.Causes.{at_glyph}
 use Rattle.glyph.specs.Glyphs.{box_of, components_of, ends_of, Glyph, instructions_of, kind_of, points_of}
 use Rattle.glyph.specs.Laying.{laid}
 use Rattle.glyph.specs.Records.{behind, part, record_of}
-use Rattle.glyph.specs.declared.component.Component.{Component}
 use Rattle.glyph.specs.declared.lists.GlyphRecord.{GlyphRecord}
 use Rattle.glyph.specs.declared.lists.Point.{Point}
 use Rattle.glyph.specs.declared.places.Places.{Places}
@@ -17,12 +16,13 @@ use Rattle.read.proofs.Thens.{then_accepted}
 use Rattle.read.specs.Answers.{front}
 use Rattle.read.specs.declared.error.ParseError.{ParseError}
 use Rattle.unpack.specs.Composites.{components_said}
+use Rattle.unpack.specs.Contents.{Contents, contents}
 use Rattle.unpack.specs.Glyphs.{composite_said, glyph_by, glyph_said, marked_instructions, past_count, simple_said}
 use Rattle.unpack.specs.Hints.{instructions_said}
 use Rattle.unpack.specs.Outlines.{ends_said, points_said}
 use Rattle.glyph.specs.Outlines.{origin}
 use Rattle.unpack.specs.Rests.{Rest}
-use Rattle.unpack.specs.Taken.{box_by, GlyphLaid, own_points, record_by, taken_behind, taken_by}
+use Rattle.unpack.specs.Taken.{box_by, GlyphLaid, GlyphRead, own_points, record_by, taken_behind, taken_by}
 use Rattle.unpack.specs.declared.taken.Taken.{Taken}
 use Rattle.unpack.proofs.Judged.{same_ok, told_as, when_accepted}
 
@@ -93,27 +93,21 @@ pub numbered : {A : Type 0} (i : ℕ) (r : Result A ParseError) (x : A) → Ok x
 numbered i (Ok y) x h = ap Ok (sym (same_ok _ _ h))
 numbered i (Err e) x h = let z : ◌≡◌ {A = ℕ} 0 1 = cc in absurd (omega arith)
 
-module _ (boxed : Bool) (i idx : ℕ) (s s' : Rest) (at next : Places) (taken : Taken) (rec : GlyphRecord) (res : Result Taken ParseError) (records records' : List GlyphRecord) (ends ends' hints hints' : List ℕ) (points points' : List Point) (parts parts' : List Component) where
-  abbrev GlyphRead : Type 0
-  GlyphRead =
-      MatchResult (glyph_said boxed s)
-      (λ p.
-      (res ≡ Ok (taken_by boxed p.0)) × (s' ≡ p.1) × GlyphLaid at p.0 ends ends' points points' parts parts' hints hints'
-      × (length s'.composites + length (components_of p.0) ≤ length s.composites))
-      (λ e. res ≡ Err e)
+module _ (boxed : Bool) (i idx : ℕ) (s s' : Rest) (at next : Places) (taken : Taken) (rec : GlyphRecord) (res : Result Taken ParseError) (before mid : Contents) (records : List GlyphRecord) where
+  abbrev after : Contents
+  after = contents records mid.ends mid.points mid.components mid.instructions
 
   abbrev GlyphRecorded : Type 0
   GlyphRecorded =
       MatchResult (at_glyph i (glyph_said boxed s))
       (λ p.
-      (◌≡◌ {A = Result Places Refusal} (Ok next) (Ok (behind at p.0))) × (s' ≡ p.1)
-      × GlyphLaid at p.0 ends ends' points points' parts parts' hints hints'
-      × (at.points + length (points_of p.0) ≤ length points → records' ≡ laid i (record_of at p.0 ∷ []) records)
+      (◌≡◌ {A = Result Places Refusal} (Ok next) (Ok (behind at p.0))) × (s' ≡ p.1) × GlyphLaid at p.0 before after
+      × (at.points + length (points_of p.0) ≤ length before.points → after.records ≡ laid i (record_of at p.0 ∷ []) before.records)
       × (length s'.composites + length (components_of p.0) ≤ length s.composites) × (length (ends_of p.0) ≤ 65535)
       × (length (points_of p.0) ≤ 65535) × (length (instructions_of p.0) ≤ 65535))
       (λ e. ◌≡◌ {A = Result Places Refusal} (Ok next) (Err e))
 
-  pub next_answer : GlyphRead → Ok taken ≡ at_glyph i res → rec ≡ record_by taken points' at → idx ≡ i → records' ≡ laid idx (rec ∷ []) records → next ≡ taken_behind at taken → taken.ends ≤ 65535 → taken.points ≤ 65535 → taken.instructions ≤ 65535 → GlyphRecorded
+  pub next_answer : GlyphRead boxed (glyph_said boxed s) at s s' before mid res → Ok taken ≡ at_glyph i res → rec ≡ record_by taken mid.points at → idx ≡ i → records ≡ laid idx (rec ∷ []) mid.records → next ≡ taken_behind at taken → taken.ends ≤ 65535 → taken.points ≤ 65535 → taken.instructions ≤ 65535 → GlyphRecorded
   next_answer read given is_rec is_idx put is_next e16 p16 i16 =
       let is_res = numbered i res taken given in
       let a = told_as {A = Glyph × Rest} res taken is_res {s = glyph_said boxed s} read in
@@ -123,13 +117,14 @@ module _ (boxed : Bool) (i idx : ℕ) (s s' : Rest) (at next : Places) (taken : 
       when_accepted _ _ _ _ (ap (at_glyph i) a.1) (
         ap Ok (is_next ∙ ap (taken_behind at) is_taken),
         a.2.1,
-        laid_so,
+        record { ends_laid = laid_so.ends_laid; points_laid = laid_so.points_laid; components_laid = laid_so.components_laid; hints_laid = laid_so.hints_laid },
         (λ room.
             put
-            ∙ (ap (λ (k : ℕ). laid k (rec ∷ []) records) is_idx
-            ∙ ap (λ (x : GlyphRecord). laid i (x ∷ []) records)
-            (is_rec ∙ (ap (λ (t : Taken). record_by t points' at) is_taken ∙ record_is boxed s p at points points' a.1 laid_so.points_laid room)))),
-        a.2.3,
+            ∙ (ap (λ (k : ℕ). laid k (rec ∷ []) mid.records) is_idx
+            ∙ (ap (laid i (rec ∷ [])) a.2.3
+            ∙ ap (λ (x : GlyphRecord). laid i (x ∷ []) before.records)
+            (is_rec ∙ (ap (λ (t : Taken). record_by t mid.points at) is_taken ∙ record_is boxed s p at before.points mid.points a.1 laid_so.points_laid room))))),
+        a.2.4,
         omega (arith, ap (λ (t : Taken). t.ends) is_taken),
         omega (arith, ap (λ (t : Taken). t.points) is_taken),
         omega (arith, ap (λ (t : Taken). t.instructions) is_taken),

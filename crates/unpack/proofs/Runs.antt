@@ -1,5 +1,5 @@
 -- Glyphs that were read so far, and one more.
-use Rattle.std.proofs.Common.{◌≡◌, ℕ, suc, ◌+◌, ◌≤◌, List, [], ◌∷◌, ◌++◌, length, sym, refl, ap, ◌∙◌, arith}
+use Rattle.std.proofs.Common.{◌≡◌, ℕ, suc, ◌+◌, ◌≤◌, List, [], ◌∷◌, ◌++◌, length, sym, refl, ap, ◌∙◌, subst, arith}
 use Rattle.std.proofs.lemmas.List.{append_assoc, append-nil, length-append}
 use Rattle.std.specs.List.{flat_map}
 use Rattle.glyph.proofs.Lays.{laid_append, laid_more, length_laid}
@@ -10,6 +10,7 @@ use Rattle.glyph.specs.declared.component.Component.{Component}
 use Rattle.glyph.specs.declared.lists.GlyphRecord.{GlyphRecord}
 use Rattle.glyph.specs.declared.lists.Point.{Point}
 use Rattle.glyph.specs.declared.places.Places.{Places}
+use Rattle.unpack.specs.Contents.{Contents, contents}
 use Rattle.unpack.specs.Runs.{RunLaid}
 use Rattle.unpack.specs.Taken.{GlyphLaid}
 
@@ -79,37 +80,38 @@ laid_with f gs g old mid new before put =
     ∙ ap (λ xs. laid 0 xs old) (sym (joined_push f gs g))))
 
 -- One glyph more behind a run that is laid.
-module _ (gs : List Glyph) (g : Glyph) (i : ℕ) (at : Places) (count : length gs ≡ i) (places : at ≡ needed gs)
-    (records records₁ records₂ : List GlyphRecord) (ends ends₁ ends₂ : List ℕ) (points points₁ points₂ : List Point) (parts parts₁ parts₂ : List Component) (hints hints₁ hints₂ : List ℕ) where
-  pub run_more : RunLaid gs records records₁ ends ends₁ points points₁ parts parts₁ hints hints₁ → GlyphLaid at g ends₁ ends₂ points₁ points₂ parts₁ parts₂ hints₁ hints₂ → (at.points + length (points_of g) ≤ length points₁ → records₂ ≡ laid i (record_of at g ∷ []) records₁) → RunLaid (gs ++ g ∷ []) records records₂ ends ends₂ points points₂ parts parts₂ hints hints₂
+module _ (gs : List Glyph) (g : Glyph) (i : ℕ) (at : Places) (count : length gs ≡ i) (places : at ≡ needed gs) (old mid new : Contents) where
+  pub run_more : RunLaid gs old mid → GlyphLaid at g mid new → (at.points + length (points_of g) ≤ length mid.points → new.records ≡ laid i (record_of at g ∷ []) mid.records) → RunLaid (gs ++ g ∷ []) old new
   run_more run put rec =
       record {
-        ends_laid = laid_with ends_of gs g ends ends₁ ends₂ run.ends_laid (put.ends_laid ∙ ap (λ (p : Places). laid p.ends (ends_of g) ends₁) places);
-        points_laid = laid_with points_of gs g points points₁ points₂ run.points_laid (put.points_laid ∙ ap (λ (p : Places). laid p.points (points_of g) points₁) places);
-        components_laid = laid_with components_of gs g parts parts₁ parts₂ run.components_laid (put.components_laid ∙ ap (λ (p : Places). laid p.components (components_of g) parts₁) places);
-        hints_laid = laid_with instructions_of gs g hints hints₁ hints₂ run.hints_laid (put.hints_laid ∙ ap (λ (p : Places). laid p.instructions (instructions_of g) hints₁) places);
+        ends_laid = laid_with ends_of gs g old.ends mid.ends new.ends run.ends_laid (put.ends_laid ∙ ap (λ (p : Places). laid p.ends (ends_of g) mid.ends) places);
+        points_laid = laid_with points_of gs g old.points mid.points new.points run.points_laid (put.points_laid ∙ ap (λ (p : Places). laid p.points (points_of g) mid.points) places);
+        components_laid = laid_with components_of gs g old.components mid.components new.components run.components_laid (put.components_laid ∙ ap (λ (p : Places). laid p.components (components_of g) mid.components) places);
+        hints_laid = laid_with instructions_of gs g old.instructions mid.instructions new.instructions run.hints_laid (put.hints_laid ∙ ap (λ (p : Places). laid p.instructions (instructions_of g) mid.instructions) places);
         records_laid =
             (λ room.
             let all : length (flat_map points_of (gs ++ g ∷ [])) ≡ length (flat_map points_of gs) + length (points_of g) =
             ap length (joined_push points_of gs g) ∙ length-append (flat_map points_of gs) (points_of g)
             in
-            let same_length : length points₁ ≡ length points = ap length run.points_laid ∙ length_laid 0 (flat_map points_of gs) points in
+            let same_length : length mid.points ≡ length old.points = ap length run.points_laid ∙ length_laid 0 (flat_map points_of gs) old.points in
             let here : at.points ≡ length (flat_map points_of gs) = ap (λ (p : Places). p.points) places in
             let long : i ≡ 0 + length (records_of start gs) = omega (arith, records_length start gs) in
             rec (omega arith)
-            ∙ (ap (λ (p : Places). laid i (record_of p g ∷ []) records₁) places
+            ∙ (ap (λ (p : Places). laid i (record_of p g ∷ []) mid.records) places
             ∙ (ap (laid i (record_of (needed gs) g ∷ [])) (run.records_laid (omega arith))
-            ∙ (sym (laid_more 0 i (records_of start gs) (record_of (needed gs) g) records long) ∙ ap (λ (rs : List GlyphRecord). laid 0 rs records) (sym (records_more gs g))))));
+            ∙ (sym (laid_more 0 i (records_of start gs) (record_of (needed gs) g) old.records long) ∙ ap (λ (rs : List GlyphRecord). laid 0 rs old.records) (sym (records_more gs g))))));
       }
 
+unfoldable contents_of : List GlyphRecord → List ℕ → List Point → List Component → List ℕ → Contents
+contents_of r e p c i = contents r e p c i
+
+pub same_contents : (a b : Contents) → a.records ≡ b.records → a.ends ≡ b.ends → a.points ≡ b.points → a.components ≡ b.components → a.instructions ≡ b.instructions → a ≡ b
+unfolding contents_of
+same_contents a b r e p c i =
+    let h : contents_of a.records a.ends a.points a.components a.instructions ≡ contents_of b.records b.ends b.points b.components b.instructions = cc in
+    h
+
 -- The same run in lists that are known to be equal.
-module _ (gs : List Glyph) {records₀ records₁ records₂ records₃ : List GlyphRecord} {ends₀ ends₁ ends₂ ends₃ : List ℕ} {points₀ points₁ points₂ points₃ : List Point} {parts₀ parts₁ parts₂ parts₃ : List Component} {hints₀ hints₁ hints₂ hints₃ : List ℕ} where
-  pub run_moved : records₀ ≡ records₁ → records₃ ≡ records₂ → ends₀ ≡ ends₁ → ends₃ ≡ ends₂ → points₀ ≡ points₁ → points₃ ≡ points₂ → parts₀ ≡ parts₁ → parts₃ ≡ parts₂ → hints₀ ≡ hints₁ → hints₃ ≡ hints₂ → RunLaid gs records₀ records₂ ends₀ ends₂ points₀ points₂ parts₀ parts₂ hints₀ hints₂ → RunLaid gs records₁ records₃ ends₁ ends₃ points₁ points₃ parts₁ parts₃ hints₁ hints₃
-  run_moved r r' e e' p p' c c' h h' run =
-      record {
-        ends_laid = e' ∙ (run.ends_laid ∙ ap (laid 0 (flat_map ends_of gs)) e);
-        points_laid = p' ∙ (run.points_laid ∙ ap (laid 0 (flat_map points_of gs)) p);
-        components_laid = c' ∙ (run.components_laid ∙ ap (laid 0 (flat_map components_of gs)) c);
-        hints_laid = h' ∙ (run.hints_laid ∙ ap (laid 0 (flat_map instructions_of gs)) h);
-        records_laid = (λ room. r' ∙ (run.records_laid (omega (arith, ap length p)) ∙ ap (laid 0 (records_of start gs)) r));
-      }
+pub run_moved : (gs : List Glyph) {a b c d : Contents} → a ≡ b → d ≡ c → RunLaid gs a c → RunLaid gs b d
+run_moved gs {a} {b} {c} {d} before after run =
+    subst (λ x. RunLaid gs x d) before (subst (λ x. RunLaid gs a x) (sym after) run)

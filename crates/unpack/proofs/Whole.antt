@@ -2,7 +2,7 @@
 use Rattle.std.proofs.Common.{◌≡◌, ℕ, suc, ◌+◌, ◌≤◌, Bool, true, false, cond, List, [], length, take, drop, Some, None, Ok, Err, Option, Result, sym, refl, ap, ◌∙◌, arith, MatchResult}
 use Rattle.binary.specs.declared.BoundingBox.{BoundingBox}
 use Rattle.glyph.specs.Bounds.{bounds}
-use Rattle.glyph.specs.Glyphs.{components_of, composite, ends_of, instructions_of, points_of, simple}
+use Rattle.glyph.specs.Glyphs.{composite, simple}
 use Rattle.glyph.specs.Laying.{laid}
 use Rattle.glyph.specs.declared.lists.GlyphKind.TheVariants.{Composite, Simple}
 use Rattle.glyph.specs.declared.places.Places.{Places}
@@ -17,12 +17,13 @@ use Rattle.unpack.proofs.Judged.{same_ok, told, when_accepted}
 use Rattle.unpack.proofs.Lengths.{ends_length, points_length}
 use Rattle.unpack.proofs.Rested.{rest, same_rest, same_taken}
 use Rattle.unpack.specs.declared.taken.Taken.{Taken}
+use Rattle.unpack.specs.Contents.{Contents}
 use Rattle.unpack.specs.Glyphs.{box_front, box_or, composite_said, marked_instructions, own_box, simple_said}
 use Rattle.unpack.specs.Hints.{instructions_said}
 use Rattle.unpack.specs.Outlines.{ends_said, points_said}
 use Rattle.glyph.specs.Outlines.{origin}
 use Rattle.unpack.specs.Rests.{Rest}
-use Rattle.unpack.specs.Taken.{box_field, taken_by}
+use Rattle.unpack.specs.Taken.{box_field, GlyphRead, taken_by}
 
 module _ (boxed : Bool) (c : ℕ) (s : Rest) (e : List ℕ × ℕ × List ℕ) (f : List ℕ × List ℕ) (p : List Point × List ℕ)
     (ends : ends_said c [] 0 s.points ≡ Ok e) (flags : front e.1 s.flags ≡ Ok f) (points : points_said f.0 [] origin s.glyphs ≡ Ok p) where
@@ -50,13 +51,13 @@ module _ (given : BoundingBox) (bs : List ℕ) where
   box_or_missed false d h = let z : ◌≡◌ {A = ℕ} 0 1 = cc in absurd (omega arith)
 
 -- A simple glyph that was read and laid.
-module _ (boxed : Bool) (c : ℕ) (s s' : Rest) (at : Places) (count n hints : ℕ) (bbox : Option BoundingBox) (fs g1 ends ends' bytes bytes' : List ℕ) (points points' : List Point) where
+module _ (boxed : Bool) (c : ℕ) (s s' : Rest) (at : Places) (count n hints : ℕ) (bbox : Option BoundingBox) (fs g1 : List ℕ) (before after : Contents) where
   abbrev simple_taken : Taken
   simple_taken =
       record { kind = Simple; bbox = bbox; ends = c; points = count; components = 0; instructions = hints }
 
-  pub simple_answer : MatchResult (ends_said c [] 0 s.points) (λ p. (◌≡◌ {A = Result ℕ ParseError} (Ok count) (Ok p.1)) × (s'.points ≡ p.2) × (ends' ≡ laid at.ends p.0 ends)) (λ e. ◌≡◌ {A = Result ℕ ParseError} (Ok count) (Err e)) → n ≡ count → (n ≤ length s.flags) × (fs ≡ take n s.flags) × (s'.flags ≡ drop n s.flags) → MatchResult (points_said fs [] origin s.glyphs) (λ p. (◌≡◌ {A = Result Unit ParseError} (Ok tt) (Ok tt)) × (g1 ≡ p.1) × (points' ≡ laid at.points p.0 points)) (λ e. ◌≡◌ {A = Result Unit ParseError} (Ok tt) (Err e)) → MatchResult (instructions_said g1 s.instructions) (λ p. (◌≡◌ {A = Result ℕ ParseError} (Ok hints) (Ok (length p.0))) × (s'.glyphs ≡ p.1) × (s'.instructions ≡ p.2) × (bytes' ≡ laid at.instructions p.0 bytes)) (λ e. ◌≡◌ {A = Result ℕ ParseError} (Ok hints) (Err e)) → MatchResult (box_field boxed s.boxes) (λ p. (◌≡◌ {A = Result (Option BoundingBox) ParseError} (Ok bbox) (Ok p.0)) × (s'.boxes ≡ p.1)) (λ e. ◌≡◌ {A = Result (Option BoundingBox) ParseError} (Ok bbox) (Err e)) → s'.contours ≡ s.contours → s'.composites ≡ s.composites → MatchResult (simple_said boxed c s) (λ p. (◌≡◌ {A = Result Taken ParseError} (Ok simple_taken) (Ok (taken_by boxed p.0))) × (s' ≡ p.1) × (ends' ≡ laid at.ends (ends_of p.0) ends) × (points' ≡ laid at.points (points_of p.0) points) × (bytes' ≡ laid at.instructions (instructions_of p.0) bytes) × (components_of p.0 ≡ []) × (s'.composites ≡ s.composites)) (λ e. ◌≡◌ {A = Result Taken ParseError} (Ok simple_taken) (Err e))
-  simple_answer h1 same t h2 h3 h4 kept_contours kept_composites =
+  pub simple_answer : MatchResult (ends_said c [] 0 s.points) (λ p. (◌≡◌ {A = Result ℕ ParseError} (Ok count) (Ok p.1)) × (s'.points ≡ p.2) × (after.ends ≡ laid at.ends p.0 before.ends)) (λ e. ◌≡◌ {A = Result ℕ ParseError} (Ok count) (Err e)) → n ≡ count → (n ≤ length s.flags) × (fs ≡ take n s.flags) × (s'.flags ≡ drop n s.flags) → MatchResult (points_said fs [] origin s.glyphs) (λ p. (◌≡◌ {A = Result Unit ParseError} (Ok tt) (Ok tt)) × (g1 ≡ p.1) × (after.points ≡ laid at.points p.0 before.points)) (λ e. ◌≡◌ {A = Result Unit ParseError} (Ok tt) (Err e)) → MatchResult (instructions_said g1 s.instructions) (λ p. (◌≡◌ {A = Result ℕ ParseError} (Ok hints) (Ok (length p.0))) × (s'.glyphs ≡ p.1) × (s'.instructions ≡ p.2) × (after.instructions ≡ laid at.instructions p.0 before.instructions)) (λ e. ◌≡◌ {A = Result ℕ ParseError} (Ok hints) (Err e)) → MatchResult (box_field boxed s.boxes) (λ p. (◌≡◌ {A = Result (Option BoundingBox) ParseError} (Ok bbox) (Ok p.0)) × (s'.boxes ≡ p.1)) (λ e. ◌≡◌ {A = Result (Option BoundingBox) ParseError} (Ok bbox) (Err e)) → s'.contours ≡ s.contours → s'.composites ≡ s.composites → after.components ≡ before.components → after.records ≡ before.records → GlyphRead boxed (simple_said boxed c s) at s s' before after (Ok simple_taken)
+  simple_answer h1 same t h2 h3 h4 kept_contours kept_composites same_parts same_records =
       let a = told _ _ _ h1 in
       let d = told _ _ _ h2 in
       let i = told _ _ _ h3 in
@@ -75,11 +76,9 @@ module _ (boxed : Bool) (c : ℕ) (s s' : Rest) (at : Places) (count n hints : �
       when_accepted _ _ _ _ e (
         ap Ok (same_taken simple_taken (taken_by boxed glyph) refl (told_box ∙ b.2) as_many_ends as_many_points refl told_hints),
         same_rest s' (rest s.contours a.0.2 s'.flags i.0.1 s.composites b.0.1 i.0.2) kept_contours a.2.1 refl i.2.1 kept_composites (q.2.1 ∙ b.3) i.2.2,
-        a.2.2,
-        d.2.2,
-        i.2.3,
-        refl,
-        kept_composites,
+        record { ends_laid = a.2.2; points_laid = d.2.2; components_laid = same_parts; hints_laid = i.2.3 },
+        same_records,
+        omega (arith, ap length kept_composites),
       )
 
 module _ (boxed : Bool) (s : Rest) (c : List Component × Bool × List ℕ) (parts : components_said (suc (length s.composites)) [] false s.composites ≡ Ok c) where
@@ -108,13 +107,13 @@ module _ (bs : List ℕ) where
   own_box_missed false d h = let z : ◌≡◌ {A = ℕ} 0 1 = cc in absurd (omega arith)
 
 -- A composite glyph that was read and laid.
-module _ (boxed mark : Bool) (s s' : Rest) (at : Places) (count hints : ℕ) (box : BoundingBox) (got : Option BoundingBox) (bytes bytes' : List ℕ) (parts parts' : List Component) where
+module _ (boxed mark : Bool) (s s' : Rest) (at : Places) (count hints : ℕ) (box : BoundingBox) (got : Option BoundingBox) (before after : Contents) where
   abbrev composite_taken : Taken
   composite_taken =
       record { kind = Composite; bbox = Some box; ends = 0; points = 0; components = count; instructions = hints }
 
-  pub composite_answer : MatchResult (components_said (suc (length s.composites)) [] false s.composites) (λ p. (◌≡◌ {A = Result (ℕ × Bool) ParseError} (Ok (count, mark)) (Ok (length p.0, p.1))) × (s'.composites ≡ p.2) × (parts' ≡ laid at.components p.0 parts) × (length s'.composites + length p.0 ≤ length s.composites)) (λ e. ◌≡◌ {A = Result (ℕ × Bool) ParseError} (Ok (count, mark)) (Err e)) → MatchResult (marked_instructions mark s.glyphs s.instructions) (λ p. (◌≡◌ {A = Result ℕ ParseError} (Ok hints) (Ok (length p.0))) × (s'.glyphs ≡ p.1) × (s'.instructions ≡ p.2) × (bytes' ≡ laid at.instructions p.0 bytes)) (λ e. ◌≡◌ {A = Result ℕ ParseError} (Ok hints) (Err e)) → MatchResult (box_field boxed s.boxes) (λ p. (◌≡◌ {A = Result (Option BoundingBox) ParseError} (Ok got) (Ok p.0)) × (s'.boxes ≡ p.1)) (λ e. ◌≡◌ {A = Result (Option BoundingBox) ParseError} (Ok got) (Err e)) → got ≡ Some box → s'.contours ≡ s.contours → s'.points ≡ s.points → s'.flags ≡ s.flags → MatchResult (composite_said boxed s) (λ p. (◌≡◌ {A = Result Taken ParseError} (Ok composite_taken) (Ok (taken_by boxed p.0))) × (s' ≡ p.1) × (parts' ≡ laid at.components (components_of p.0) parts) × (bytes' ≡ laid at.instructions (instructions_of p.0) bytes) × (length s'.composites + length (components_of p.0) ≤ length s.composites) × (ends_of p.0 ≡ []) × (points_of p.0 ≡ [])) (λ e. ◌≡◌ {A = Result Taken ParseError} (Ok composite_taken) (Err e))
-  composite_answer h1 h2 h3 is_box kept_contours kept_points kept_flags =
+  pub composite_answer : MatchResult (components_said (suc (length s.composites)) [] false s.composites) (λ p. (◌≡◌ {A = Result (ℕ × Bool) ParseError} (Ok (count, mark)) (Ok (length p.0, p.1))) × (s'.composites ≡ p.2) × (after.components ≡ laid at.components p.0 before.components) × (length s'.composites + length p.0 ≤ length s.composites)) (λ e. ◌≡◌ {A = Result (ℕ × Bool) ParseError} (Ok (count, mark)) (Err e)) → MatchResult (marked_instructions mark s.glyphs s.instructions) (λ p. (◌≡◌ {A = Result ℕ ParseError} (Ok hints) (Ok (length p.0))) × (s'.glyphs ≡ p.1) × (s'.instructions ≡ p.2) × (after.instructions ≡ laid at.instructions p.0 before.instructions)) (λ e. ◌≡◌ {A = Result ℕ ParseError} (Ok hints) (Err e)) → MatchResult (box_field boxed s.boxes) (λ p. (◌≡◌ {A = Result (Option BoundingBox) ParseError} (Ok got) (Ok p.0)) × (s'.boxes ≡ p.1)) (λ e. ◌≡◌ {A = Result (Option BoundingBox) ParseError} (Ok got) (Err e)) → got ≡ Some box → s'.contours ≡ s.contours → s'.points ≡ s.points → s'.flags ≡ s.flags → after.ends ≡ before.ends → after.points ≡ before.points → after.records ≡ before.records → GlyphRead boxed (composite_said boxed s) at s s' before after (Ok composite_taken)
+  composite_answer h1 h2 h3 is_box kept_contours kept_points kept_flags same_ends same_points same_records =
       let a = told _ _ _ h1 in
       let i = told _ _ _ h2 in
       let q = told _ _ _ h3 in
@@ -131,9 +130,7 @@ module _ (boxed mark : Bool) (s s' : Rest) (at : Places) (count hints : ℕ) (bo
       when_accepted _ _ _ _ e (
         ap Ok (same_taken composite_taken (taken_by boxed glyph) refl own refl refl told_count told_hints),
         same_rest s' (rest s.contours s.points s.flags i.0.1 a.0.2 q.0.1 i.0.2) kept_contours kept_points kept_flags i.2.1 a.2.1 q.2.1 i.2.2,
-        a.2.2,
-        i.2.3,
+        record { ends_laid = same_ends; points_laid = same_points; components_laid = a.2.2; hints_laid = i.2.3 },
+        same_records,
         a.2.3,
-        refl,
-        refl,
       )

@@ -1,4 +1,5 @@
 pub mod Composites
+pub mod Contents
 pub mod Cursors
 pub mod Glyphs
 pub mod Hints

@@ -1,17 +1,18 @@
 -- What a glyph takes of the lists.
-use Rattle.std.specs.Prelude.{◌≡◌, ℕ, ◌+◌, Bool, true, false, cond, List, [], length, take, drop, Some, None, Ok, Option, Result, nat_le}
+use Rattle.std.specs.Prelude.{◌≡◌, ℕ, ◌+◌, ◌≤◌, Bool, true, false, cond, List, [], length, take, drop, Some, None, Ok, Err, Option, Result, MatchResult, nat_le}
 use Rattle.binary.specs.declared.BoundingBox.{BoundingBox}
 use Rattle.glyph.specs.Bounds.{bounds}
 use Rattle.glyph.specs.Glyphs.{box_of, components_of, ends_of, Glyph, instructions_of, kind_of, points_of}
 use Rattle.glyph.specs.Laying.{laid}
 use Rattle.glyph.specs.Records.{part}
-use Rattle.glyph.specs.declared.component.Component.{Component}
 use Rattle.glyph.specs.declared.lists.GlyphRecord.{GlyphRecord}
 use Rattle.glyph.specs.declared.lists.Point.{Point}
 use Rattle.glyph.specs.declared.places.Places.{Places}
 use Rattle.read.specs.Answers.{then}
 use Rattle.read.specs.declared.error.ParseError.{ParseError}
+use Rattle.unpack.specs.Contents.{Contents}
 use Rattle.unpack.specs.Glyphs.{box_front}
+use Rattle.unpack.specs.Rests.{Rest}
 use Rattle.unpack.specs.declared.taken.Taken.{Taken}
 
 -- A glyph's own box, if its bit is set.
@@ -31,11 +32,21 @@ taken_by boxed g =
     }
 
 -- The glyph's ends, points, components and instructions are laid from the places `at` on.
-pub record GlyphLaid (at : Places) (g : Glyph) (ends ends' : List ℕ) (points points' : List Point) (components components' : List Component) (hints hints' : List ℕ) : Type 0 where
-  pub ends_laid : ends' ≡ laid at.ends (ends_of g) ends
-  pub points_laid : points' ≡ laid at.points (points_of g) points
-  pub components_laid : components' ≡ laid at.components (components_of g) components
-  pub hints_laid : hints' ≡ laid at.instructions (instructions_of g) hints
+pub record GlyphLaid (at : Places) (g : Glyph) (before after : Contents) : Type 0 where
+  pub ends_laid : after.ends ≡ laid at.ends (ends_of g) before.ends
+  pub points_laid : after.points ≡ laid at.points (points_of g) before.points
+  pub components_laid : after.components ≡ laid at.components (components_of g) before.components
+  pub hints_laid : after.instructions ≡ laid at.instructions (instructions_of g) before.instructions
+
+-- A read of a glyph: it is laid from the places `at` on, without its record. It has at most as many components as bytes
+-- were read of them.
+abbrev pub GlyphRead : Bool → Result (Glyph × Rest) ParseError → Places → Rest → Rest → Contents → Contents → Result Taken ParseError → Type 0
+GlyphRead boxed said at s s' before after r =
+    MatchResult said
+    (λ p.
+    (r ≡ Ok (taken_by boxed p.0)) × (s' ≡ p.1) × GlyphLaid at p.0 before after
+    × (after.records ≡ before.records) × (length s'.composites + length (components_of p.0) ≤ length s.composites))
+    (λ e. r ≡ Err e)
 
 -- A glyph's points, where the list has them all.
 abbrev pub own_points : List Point → ℕ → ℕ → List Point

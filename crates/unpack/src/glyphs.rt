@@ -1,43 +1,34 @@
 //! A glyph of any kind.
-ghost use Rattle.std.specs.Prelude.{◌≡◌, ◌+◌, ◌^◌, ◌<◌, ◌≤◌, length, pos, ◌<ℤ◌, Ok, Err, MatchResult};
-ghost use Rattle.glyph.specs.Glyphs.{components_of};
+ghost use Rattle.std.specs.Prelude.{◌≡◌, ◌+◌, ◌^◌, ◌<◌, length, pos, ◌<ℤ◌};
+ghost use Rattle.unpack.specs.Contents.{in_slots, SameLent};
 ghost use Rattle.unpack.specs.Cursors.{left};
 ghost use Rattle.unpack.specs.Glyphs.{glyph_said};
-ghost use Rattle.unpack.specs.Taken.{box_by, GlyphLaid, own_points, record_by, taken_by};
+ghost use Rattle.unpack.specs.Taken.{box_by, GlyphRead, own_points, record_by};
 
 use crate::shapes::{read_composite, read_simple};
+use crate::slots::Slots;
 use crate::streams::Streams;
 use crate::taken::Taken;
 use binary::{BoundingBox, I16Be};
-use glyph::{Component, GlyphKind, GlyphRecord, Part, Places, Point, bounding_box};
+use glyph::{GlyphKind, GlyphRecord, Part, Places, Point, bounding_box};
 use read::error::ParseError;
 
 /// Reads the next glyph, whose bit in the bitmap of boxes is `boxed`, and lays it from the places `at` on.
 pub(crate) fn read_glyph(
     streams: &mut Streams<'_>,
     boxed: bool,
-    ends: &mut [u16],
-    points: &mut [Point],
-    components: &mut [Component],
-    instructions: &mut [u8],
+    slots: &mut Slots<'_>,
     at: Places,
 ) -> Result<Taken, ParseError>
     requires { at.components + length streams.old.composites.rest.now < 2 ^ 32 }
-    ensures { MatchResult (glyph_said boxed (left streams.old)) (λ p. (result ≡ Ok (taken_by boxed p.0)) × (left streams.new ≡ p.1) × GlyphLaid at p.0 ends.old ends.new points.old points.new components.old components.new instructions.old instructions.new × (length streams.new.composites.rest.now + length (components_of p.0) ≤ length streams.old.composites.rest.now)) (λ e. result ≡ Err e) }
+    ensures same_lent { SameLent slots.old slots.new }
+    ensures read { GlyphRead boxed (glyph_said boxed (left streams.old)) at (left streams.old) (left streams.new) (in_slots slots.old) (in_slots slots.new) result }
 {
     let contours = streams.contours.read::<I16Be>()?;
     if contours > 0 {
-        read_simple(
-            streams,
-            boxed,
-            unsigned(contours),
-            ends,
-            points,
-            instructions,
-            at,
-        )
+        read_simple(streams, boxed, unsigned(contours), slots, at)
     } else if contours == -1 {
-        read_composite(streams, boxed, components, instructions, at)
+        read_composite(streams, boxed, slots, at)
     } else if contours == 0 && !boxed {
         Ok(Taken {
             kind: GlyphKind::Empty,

@@ -7,6 +7,7 @@ mod outline;
 mod parts;
 mod run;
 mod shapes;
+mod slots;
 mod streams;
 mod table;
 mod taken;

@@ -6,6 +6,7 @@ ghost use Rattle.glyph.specs.Laying.{laid};
 ghost use Rattle.glyph.specs.Records.{behind, needed, record_of};
 ghost use Rattle.std.specs.List.{slice_get};
 ghost use Rattle.std.specs.Option.{unwrap_or};
+ghost use Rattle.unpack.specs.Contents.{in_slots, SameLent};
 ghost use Rattle.unpack.specs.Cursors.{left};
 ghost use Rattle.unpack.specs.Glyphs.{glyph_said, glyphs_said};
 ghost use Rattle.unpack.specs.Runs.{RunLaid, table_bits, table_streams};
@@ -13,22 +14,20 @@ ghost use Rattle.unpack.specs.Taken.{GlyphLaid, taken_behind};
 ghost use Rattle.woff2.specs.Bits.{bits};
 
 use crate::glyphs::{read_glyph, record_of};
+use crate::slots::Slots;
 use crate::streams::Streams;
 use crate::taken::Taken;
-use glyph::{Component, GlyphRecord, Places, Point, Refusal, at_glyph, lay};
+use glyph::{Places, Refusal, at_glyph, lay};
 use woff2::{BitSlice, TransformedGlyphTable};
 
 /// Reads every glyph of a table, and lays each behind the one before. Returns how many places they need.
 pub(crate) fn read_glyphs(
     table: &TransformedGlyphTable<'_>,
-    records: &mut [GlyphRecord],
-    ends: &mut [u16],
-    points: &mut [Point],
-    components: &mut [Component],
-    instructions: &mut [u8],
+    slots: &mut Slots<'_>,
 ) -> Result<Places, Refusal>
     requires { (table.now.header.num_glyphs ≤ 8 * length table.now.bbox_bitmap.bytes.now) × (length table.now.composites.bytes.now < 2 ^ 32) }
-    ensures { MatchResult (glyphs_said (table_bits table.now) [] (table_streams table.now)) (λ gs. (result ≡ Ok (needed gs)) × RunLaid gs records.old records.new ends.old ends.new points.old points.new components.old components.new instructions.old instructions.new) (λ e. result ≡ Err e) }
+    ensures same_lent { SameLent slots.old slots.new }
+    ensures read { MatchResult (glyphs_said (table_bits table.now) [] (table_streams table.now)) (λ gs. (result ≡ Ok (needed gs)) × RunLaid gs (in_slots slots.old) (in_slots slots.new)) (λ e. result ≡ Err e) }
 {
     let mut streams = Streams::new(table);
     let bitmap = BitSlice::new(table.bbox_bitmap.data());
@@ -40,17 +39,7 @@ pub(crate) fn read_glyphs(
     };
     for i in 0..table.header.num_glyphs {
         let boxed = bitmap.get(usize::from(i)).unwrap_or(false);
-        at = read_next(
-            &mut streams,
-            boxed,
-            i,
-            records,
-            ends,
-            points,
-            components,
-            instructions,
-            at,
-        )?;
+        at = read_next(&mut streams, boxed, i, slots, at)?;
     }
     Ok(at)
 }
@@ -60,21 +49,17 @@ fn read_next(
     streams: &mut Streams<'_>,
     boxed: bool,
     i: u16,
-    records: &mut [GlyphRecord],
-    ends: &mut [u16],
-    points: &mut [Point],
-    components: &mut [Component],
-    instructions: &mut [u8],
+    slots: &mut Slots<'_>,
     at: Places,
 ) -> Result<Places, Refusal>
     requires { (at.ends + 65535 < 2 ^ 32) × ((at.points + 65535 < 2 ^ 32) × ((at.instructions + 65535 < 2 ^ 32) × (at.components + length streams.old.composites.rest.now < 2 ^ 32))) }
-    ensures { MatchResult (at_glyph i (glyph_said boxed (left streams.old))) (λ p. (result ≡ Ok (behind at p.0)) × (left streams.new ≡ p.1) × GlyphLaid at p.0 ends.old ends.new points.old points.new components.old components.new instructions.old instructions.new × (at.points + length (points_of p.0) ≤ length points.old → records.new ≡ laid i (record_of at p.0 ∷ []) records.old) × (length streams.new.composites.rest.now + length (components_of p.0) ≤ length streams.old.composites.rest.now) × (length (ends_of p.0) ≤ 65535) × (length (points_of p.0) ≤ 65535) × (length (instructions_of p.0) ≤ 65535)) (λ e. result ≡ Err e) }
+    ensures same_lent { SameLent slots.old slots.new }
+    ensures read { MatchResult (at_glyph i (glyph_said boxed (left streams.old))) (λ p. (result ≡ Ok (behind at p.0)) × (left streams.new ≡ p.1) × GlyphLaid at p.0 (in_slots slots.old) (in_slots slots.new) × (at.points + length (points_of p.0) ≤ length slots.old.points.now → slots.new.records.now ≡ laid i (record_of at p.0 ∷ []) slots.old.records.now) × (length streams.new.composites.rest.now + length (components_of p.0) ≤ length streams.old.composites.rest.now) × (length (ends_of p.0) ≤ 65535) × (length (points_of p.0) ≤ 65535) × (length (instructions_of p.0) ≤ 65535)) (λ e. result ≡ Err e) }
 {
-    let taken = at_glyph(
-        i,
-        read_glyph(streams, boxed, ends, points, components, instructions, at),
-    )?;
-    lay(records, usize::from(i), record_of(taken, points, at));
+    let taken = at_glyph(i, read_glyph(streams, boxed, slots, at))?;
+    let points = &mut *slots.points;
+    let record = record_of(taken, points, at);
+    lay(slots.records, usize::from(i), record);
     Ok(places_behind(at, taken))
 }
 

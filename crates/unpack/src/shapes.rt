@@ -1,18 +1,19 @@
 //! A glyph of each kind.
-ghost use Rattle.std.specs.Prelude.{◌≡◌, ◌+◌, ◌^◌, ◌<◌, ◌≤◌, [], length, Ok, Err, MatchResult};
-ghost use Rattle.glyph.specs.Glyphs.{components_of, ends_of, instructions_of, points_of};
+ghost use Rattle.std.specs.Prelude.{◌≡◌, ◌+◌, ◌^◌, ◌<◌, length, Ok, Err, MatchResult};
 ghost use Rattle.glyph.specs.Laying.{laid};
+ghost use Rattle.unpack.specs.Contents.{in_slots, SameLent};
 ghost use Rattle.unpack.specs.Cursors.{left};
 ghost use Rattle.unpack.specs.Glyphs.{composite_said, marked_instructions, simple_said};
-ghost use Rattle.unpack.specs.Taken.{box_field, taken_by};
+ghost use Rattle.unpack.specs.Taken.{box_field, GlyphRead};
 
 use crate::instructions::read_instructions;
 use crate::outline::{read_ends, read_points};
 use crate::parts::read_components;
+use crate::slots::Slots;
 use crate::streams::Streams;
 use crate::taken::Taken;
 use binary::BoundingBox;
-use glyph::{Component, GlyphKind, Places, Point};
+use glyph::{GlyphKind, Places};
 use read::ReadCtxt;
 use read::error::ParseError;
 
@@ -32,20 +33,19 @@ pub(crate) fn read_simple(
     streams: &mut Streams<'_>,
     boxed: bool,
     contours: u16,
-    ends: &mut [u16],
-    points: &mut [Point],
-    instructions: &mut [u8],
+    slots: &mut Slots<'_>,
     at: Places,
 ) -> Result<Taken, ParseError>
-    ensures { MatchResult (simple_said boxed contours (left streams.old)) (λ p. (result ≡ Ok (taken_by boxed p.0)) × (left streams.new ≡ p.1) × (ends.new ≡ laid at.ends (ends_of p.0) ends.old) × (points.new ≡ laid at.points (points_of p.0) points.old) × (instructions.new ≡ laid at.instructions (instructions_of p.0) instructions.old) × (components_of p.0 ≡ []) × (streams.new.composites.rest.now ≡ streams.old.composites.rest.now)) (λ e. result ≡ Err e) }
+    ensures same_lent { SameLent slots.old slots.new }
+    ensures read { GlyphRead boxed (simple_said boxed contours (left streams.old)) at (left streams.old) (left streams.new) (in_slots slots.old) (in_slots slots.new) result }
 {
-    let count = read_ends(&mut streams.points, contours, ends, at.ends as usize)?;
+    let count = read_ends(&mut streams.points, contours, slots.ends, at.ends as usize)?;
     let flags = streams.flags.read_slice(usize::from(count))?;
-    read_points(flags, &mut streams.glyphs, points, at.points as usize)?;
+    read_points(flags, &mut streams.glyphs, slots.points, at.points as usize)?;
     let hints = read_instructions(
         &mut streams.glyphs,
         &mut streams.instructions,
-        instructions,
+        slots.instructions,
         at.instructions as usize,
     )?;
     let bbox = own_box(boxed, &mut streams.boxes)?;
@@ -80,23 +80,23 @@ fn read_marked(
 pub(crate) fn read_composite(
     streams: &mut Streams<'_>,
     boxed: bool,
-    components: &mut [Component],
-    instructions: &mut [u8],
+    slots: &mut Slots<'_>,
     at: Places,
 ) -> Result<Taken, ParseError>
     requires { at.components + length streams.old.composites.rest.now < 2 ^ 32 }
-    ensures { MatchResult (composite_said boxed (left streams.old)) (λ p. (result ≡ Ok (taken_by boxed p.0)) × (left streams.new ≡ p.1) × (components.new ≡ laid at.components (components_of p.0) components.old) × (instructions.new ≡ laid at.instructions (instructions_of p.0) instructions.old) × (length streams.new.composites.rest.now + length (components_of p.0) ≤ length streams.old.composites.rest.now) × (ends_of p.0 ≡ []) × (points_of p.0 ≡ [])) (λ e. result ≡ Err e) }
+    ensures same_lent { SameLent slots.old slots.new }
+    ensures read { GlyphRead boxed (composite_said boxed (left streams.old)) at (left streams.old) (left streams.new) (in_slots slots.old) (in_slots slots.new) result }
 {
     let (count, mark) = read_components(
         &mut streams.composites,
-        components,
+        slots.components,
         at.components as usize,
     )?;
     let hints = read_marked(
         mark,
         &mut streams.glyphs,
         &mut streams.instructions,
-        instructions,
+        slots.instructions,
         at.instructions as usize,
     )?;
     let Some(bbox) = own_box(boxed, &mut streams.boxes)? else {

@@ -2,11 +2,13 @@
 ghost use Rattle.std.specs.Prelude.{◌≡◌, ◌*◌, ◌^◌, ◌<◌, ◌≤◌, [], length, Ok, Err, MatchResult};
 ghost use Rattle.glyph.specs.Records.{fitting, needed, ReadInto};
 ghost use Rattle.read.specs.Answers.{then};
+ghost use Rattle.unpack.specs.Contents.{contents};
 ghost use Rattle.unpack.specs.Glyphs.{glyphs_said, unpacked};
-ghost use Rattle.unpack.specs.Runs.{ListsLaid, table_bits, table_streams};
+ghost use Rattle.unpack.specs.Runs.{ListsLaid, RunLaid, table_bits, table_streams};
 
 use crate::run::read_glyphs;
-use glyph::{Cause, Lists, NO_GLYPH, Places, Refusal, at_glyph};
+use crate::slots::Slots;
+use glyph::{Cause, Component, GlyphRecord, Lists, NO_GLYPH, Places, Point, Refusal, at_glyph};
 use woff2::TransformedGlyphTable;
 
 /// Reads a transformed glyf table, and lays its glyphs into the lists from their first places on. Returns how many
@@ -30,7 +32,7 @@ fn fill(table: &TransformedGlyphTable<'_>, lists: &mut Lists) -> Result<u16, Ref
     ensures { ReadInto (then (glyphs_said (table_bits table.now) [] (table_streams table.now)) (fitting lists.old)) lists.old result lists.new }
 {
     let glyphs = table.header.num_glyphs;
-    let needed = read_glyphs(table, &mut [], &mut [], &mut [], &mut [], &mut [])?;
+    let needed = read_glyphs(table, &mut Slots::none())?;
     if !lists.have_room(glyphs, needed) {
         return Err(Refusal {
             cause: Cause::Lists,
@@ -45,7 +47,7 @@ fn lay_glyphs(table: &TransformedGlyphTable<'_>, lists: &mut Lists) -> Result<Pl
     requires { (table.now.header.num_glyphs ≤ 8 * length table.now.bbox_bitmap.bytes.now) × (length table.now.composites.bytes.now < 2 ^ 32) }
     ensures { MatchResult (glyphs_said (table_bits table.now) [] (table_streams table.now)) (λ gs. (result ≡ Ok (needed gs)) × ListsLaid gs lists.old lists.new) (λ e. result ≡ Err e) }
 {
-    read_glyphs(
+    lay_slices(
         table,
         lists.records.as_mut_slice(),
         lists.ends.as_mut_slice(),
@@ -53,4 +55,25 @@ fn lay_glyphs(table: &TransformedGlyphTable<'_>, lists: &mut Lists) -> Result<Pl
         lists.components.as_mut_slice(),
         lists.instructions.as_mut_slice(),
     )
+}
+
+fn lay_slices(
+    table: &TransformedGlyphTable<'_>,
+    records: &mut [GlyphRecord],
+    ends: &mut [u16],
+    points: &mut [Point],
+    components: &mut [Component],
+    instructions: &mut [u8],
+) -> Result<Places, Refusal>
+    requires { (table.now.header.num_glyphs ≤ 8 * length table.now.bbox_bitmap.bytes.now) × (length table.now.composites.bytes.now < 2 ^ 32) }
+    ensures { MatchResult (glyphs_said (table_bits table.now) [] (table_streams table.now)) (λ gs. (result ≡ Ok (needed gs)) × RunLaid gs (contents records.old ends.old points.old components.old instructions.old) (contents records.new ends.new points.new components.new instructions.new)) (λ e. result ≡ Err e) }
+{
+    let mut slots = Slots {
+        records,
+        ends,
+        points,
+        components,
+        instructions,
+    };
+    read_glyphs(table, &mut slots)
 }

@@ -4,30 +4,33 @@ use Rattle.std.proofs.lemmas.Result.{err_from_is_err_and}
 use Rattle.std.specs.List.{slice_get}
 use Rattle.woff2.specs.Bits.{bits}
 use Rattle.glyph.specs.Records.{behind}
+use Rattle.unpack.specs.Contents.{in_slots}
 use Rattle.unpack.specs.Cursors.{left}
 use Rattle.unpack.specs.Glyphs.{glyphs_said}
 use Rattle.unpack.specs.Runs.{table_bits, table_streams}
 use Rattle.unpack.proofs.Judged.{fault, when_accepted, when_refused}
-use Rattle.unpack.proofs.Reading.{bit_here, one_more, refused_here}
+use Rattle.unpack.proofs.Reading.{bit_here, one_more, refused_here, same_through}
 use Rattle.unpack.proofs.run.read_glyphs.Goals as goal
 
 pub loop-i-init : goal.loop-i-init
 loop-i-init c =
-    let e = c.new-streams.ensures in
-    record {
-      gs = [];
-      count = refl;
-      places = refl;
-      run = record { ends_laid = refl; points_laid = refl; components_laid = refl; hints_laid = refl; records_laid = (λ _. refl) };
-      few_ends = omega arith;
-      few_points = omega arith;
-      few_hints = omega arith;
-      few_parts = omega (arith, ap (λ s. length s.composites) e);
-      same = ap (glyphs_said (table_bits c.args.table.now) []) (sym e);
-    }
+    let e = c.new-streams.ensures in (
+      record { records = refl; ends = refl; points = refl; components = refl; instructions = refl },
+      record {
+        gs = [];
+        count = refl;
+        places = refl;
+        run = record { ends_laid = refl; points_laid = refl; components_laid = refl; hints_laid = refl; records_laid = (λ _. refl) };
+        few_ends = omega arith;
+        few_points = omega arith;
+        few_hints = omega arith;
+        few_parts = omega (arith, ap (λ s. length s.composites) e);
+        same = ap (glyphs_said (table_bits c.args.table.now) []) (sym e);
+      },
+    )
 
-pub returns-in_err-at : goal.returns-in_err-at
-returns-in_err-at c =
+pub returns-in_err-at-clause-read : goal.returns-in_err-at-clause-read
+returns-in_err-at-clause-read c =
     let t = c.args.table.now in
     let i = c.loop-i.i in
     let low : i < t.header.num_glyphs = omega arith in
@@ -38,9 +41,9 @@ returns-in_err-at c =
     in
     let here = bit_here t.bbox_bitmap.bytes.now t.header.num_glyphs i c.from.result c.unwrap_or-boxed.result c.from.ensures low c.requires.0 bit in
     let p = err_from_is_err_and c.from_residual.result c.from_residual.ensures.1 in
-    let missed = fault _ _ (λ q. behind c.loop-i.at q.0) _ (λ q h. h.0) c.in_err-at.ensures in
+    let missed = fault _ _ (λ q. behind c.loop-i.at q.0) _ (λ q h. h.0) c.in_err-at.ensures.read in
     when_refused _ _ _ _
-    (refused_here (table_bits t) (table_streams t) (left c.loop-i.streams) (left c.loop-i.streams) i c.unwrap_or-boxed.result c.loop-i.at c.loop-i.at c.args.records.now c.loop-i.records c.loop-i.records c.args.ends.now c.loop-i.ends c.loop-i.ends c.args.points.now c.loop-i.points c.loop-i.points c.args.components.now c.loop-i.components c.loop-i.components c.args.instructions.now c.loop-i.instructions c.loop-i.instructions here c.loop-i.invariant c.in_err-at.field-0.0 missed)
+    (refused_here (table_bits t) (table_streams t) (left c.loop-i.streams) (left c.loop-i.streams) i c.unwrap_or-boxed.result c.loop-i.at c.loop-i.at (in_slots c.args.slots.now) (in_slots c.loop-i.slots) (in_slots c.loop-i.slots) here c.loop-i.invariant.1 c.in_err-at.field-0.0 missed)
     (p.1 ∙ ap Err p.2)
 
 pub loop-i-preserved : goal.loop-i-preserved
@@ -53,13 +56,15 @@ loop-i-preserved c =
     ∙ (ap (λ o. unwrap_or o false) c.get.ensures
     ∙ ap (λ (bs : List ℕ). unwrap_or (slice_get (bits bs) c.from.result) false) (c.new-bitmap.ensures ∙ c.data.ensures))
     in
-    let here = bit_here t.bbox_bitmap.bytes.now t.header.num_glyphs i c.from.result c.unwrap_or-boxed.result c.from.ensures low c.requires.0 bit in
-    one_more (table_bits t) (table_streams t) (left c.loop-i.streams) (left c.read_next.new.streams) i c.unwrap_or-boxed.result c.loop-i.at c.in_ok-at.at c.args.records.now c.loop-i.records c.read_next.new.records c.args.ends.now c.loop-i.ends c.read_next.new.ends c.args.points.now c.loop-i.points c.read_next.new.points c.args.components.now c.loop-i.components c.read_next.new.components c.args.instructions.now c.loop-i.instructions c.read_next.new.instructions here c.loop-i.invariant
-    c.in_ok-at.ensures
+    let here = bit_here t.bbox_bitmap.bytes.now t.header.num_glyphs i c.from.result c.unwrap_or-boxed.result c.from.ensures low c.requires.0 bit in (
+      same_through c.loop-i.invariant.0 c.read_next.ensures.same_lent,
+      one_more (table_bits t) (table_streams t) (left c.loop-i.streams) (left c.read_next.new.streams) i c.unwrap_or-boxed.result c.loop-i.at c.in_ok-at.at (in_slots c.args.slots.now) (in_slots c.loop-i.slots) (in_slots c.read_next.new.slots) here c.loop-i.invariant.1
+          c.in_ok-at.ensures.read,
+    )
 
-pub returns : goal.returns
-returns c =
+pub returns-clause-read : goal.returns-clause-read
+returns-clause-read c =
     let t = c.args.table.now in
-    let inv = c.loop-i.invariant in
+    let inv = c.loop-i.invariant.1 in
     let short : length (table_bits t) ≤ c.loop-i.i = omega (arith, length-take t.header.num_glyphs (bits t.bbox_bitmap.bytes.now)) in
     when_accepted _ _ _ _ (inv.same ∙ ap (λ bs. glyphs_said bs inv.gs (left c.loop-i.streams)) (drop_all c.loop-i.i (table_bits t) short)) (ap Ok inv.places, inv.run)

@@ -1,13 +1,14 @@
 use Rattle.std.proofs.Common.{ℕ, Bool, length, Err, sym, refl, ap, ◌∙◌}
 use Rattle.std.proofs.lemmas.Result.{err_from_is_err_and}
+use Rattle.unpack.specs.Contents.{in_slots}
 use Rattle.unpack.specs.Cursors.{left}
 use Rattle.unpack.specs.Glyphs.{marked_instructions}
 use Rattle.unpack.proofs.Judged.{fault, same_ok, told, when_refused}
 use Rattle.unpack.proofs.Whole.{composite_answer, no_marked, no_own_box, own_box_missed}
 use Rattle.unpack.proofs.shapes.read_composite.Goals as goal
 
-pub returns-in_err-hints : goal.returns-in_err-hints
-returns-in_err-hints c =
+pub returns-in_err-hints-clause-read : goal.returns-in_err-hints-clause-read
+returns-in_err-hints-clause-read c =
     let s = left c.args.streams.now in
     let a = told _ _ _ c.in_ok-count.ensures in
     let mark = ap (λ (p : ℕ × Bool). p.1) (same_ok _ _ a.2.0) in
@@ -18,8 +19,8 @@ returns-in_err-hints c =
     (ap (λ m. marked_instructions m s.glyphs s.instructions) (sym mark) ∙ missed))
     (p.1 ∙ ap Err p.2)
 
-pub returns-in_err-bbox : goal.returns-in_err-bbox
-returns-in_err-bbox c =
+pub returns-in_err-bbox-clause-read : goal.returns-in_err-bbox-clause-read
+returns-in_err-bbox-clause-read c =
     let s = left c.args.streams.now in
     let a = told _ _ _ c.in_ok-count.ensures in
     let i = told _ _ _ c.in_ok-hints.ensures in
@@ -31,7 +32,7 @@ returns-in_err-bbox c =
     (own_box_missed s.boxes c.args.boxed c.in_err-bbox.field-0.0 missed))
     (p.1 ∙ ap Err p.2)
 
-pub returns : goal.returns
-returns c =
-    composite_answer c.args.boxed c.in_ok-count.mark (left c.args.streams.now) _ c.args.at c.in_ok-count.count c.in_ok-hints.hints c.in-Some.bbox _ c.args.instructions.now c.read_marked.new.instructions c.args.components.now c.read_components.new.components
-    c.in_ok-count.ensures c.in_ok-hints.ensures c.in_ok-bbox.ensures c.in-Some.is refl refl refl
+pub returns-clause-read : goal.returns-clause-read
+returns-clause-read c =
+    composite_answer c.args.boxed c.in_ok-count.mark (left c.args.streams.now) _ c.args.at c.in_ok-count.count c.in_ok-hints.hints c.in-Some.bbox _ (in_slots c.args.slots.now) _
+    c.in_ok-count.ensures c.in_ok-hints.ensures c.in_ok-bbox.ensures c.in-Some.is refl refl refl refl refl refl

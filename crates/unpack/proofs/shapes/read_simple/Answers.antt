@@ -3,14 +3,15 @@ use Rattle.std.proofs.lemmas.Result.{err_from_is_err_and}
 use Rattle.glyph.specs.Bounds.{bounds}
 use Rattle.read.proofs.Taking.{taken_when}
 use Rattle.read.proofs.Thens.{front_is}
+use Rattle.unpack.specs.Contents.{in_slots}
 use Rattle.unpack.specs.Cursors.{left}
 use Rattle.unpack.specs.Hints.{instructions_said}
 use Rattle.unpack.proofs.Judged.{fault, same_ok, told, when_refused}
 use Rattle.unpack.proofs.Whole.{box_or_missed, no_box_read, no_hints, simple_answer}
 use Rattle.unpack.proofs.shapes.read_simple.Goals as goal
 
-pub returns-in_err-hints : goal.returns-in_err-hints
-returns-in_err-hints c =
+pub returns-in_err-hints-clause-read : goal.returns-in_err-hints-clause-read
+returns-in_err-hints-clause-read c =
     let s = left c.args.streams.now in
     let a = told _ _ _ c.in_ok-count.ensures in
     let t = taken_when c.from.result s.flags c.read_slice.new.self.rest.now c.in_ok-flags.ensures (λ q. let f = q.0 in let z : ◌≡◌ {A = ℕ} 0 1 = cc in omega arith) in
@@ -24,8 +25,8 @@ returns-in_err-hints c =
     (ap (λ g. instructions_said g s.instructions) (sym d.2.1) ∙ missed))
     (p.1 ∙ ap Err p.2)
 
-pub returns-in_err-bbox : goal.returns-in_err-bbox
-returns-in_err-bbox c =
+pub returns-in_err-bbox-clause-read : goal.returns-in_err-bbox-clause-read
+returns-in_err-bbox-clause-read c =
     let s = left c.args.streams.now in
     let a = told _ _ _ c.in_ok-count.ensures in
     let t = taken_when c.from.result s.flags c.read_slice.new.self.rest.now c.in_ok-flags.ensures (λ q. let f = q.0 in let z : ◌≡◌ {A = ℕ} 0 1 = cc in omega arith) in
@@ -41,9 +42,9 @@ returns-in_err-bbox c =
     (box_or_missed (bounds d.0.0) s.boxes c.args.boxed c.in_err-bbox.field-0.0 missed))
     (p.1 ∙ ap Err p.2)
 
-pub returns : goal.returns
-returns c =
+pub returns-clause-read : goal.returns-clause-read
+returns-clause-read c =
     let s = left c.args.streams.now in
     let t = taken_when c.from.result s.flags c.read_slice.new.self.rest.now c.in_ok-flags.ensures (λ q. let f = q.0 in let z : ◌≡◌ {A = ℕ} 0 1 = cc in omega arith) in
-    simple_answer c.args.boxed c.args.contours s _ c.args.at c.in_ok-count.count c.from.result c.in_ok-hints.hints c.in_ok-bbox.bbox c.in_ok-flags.flags.now c.read_points.new.glyphs.rest.now c.args.ends.now c.read_ends.new.ends c.args.instructions.now c.read_instructions.new.instructions c.args.points.now c.read_points.new.points
-    c.in_ok-count.ensures c.from.ensures t c.in_ok-read_points.ensures c.in_ok-hints.ensures c.in_ok-bbox.ensures refl refl
+    simple_answer c.args.boxed c.args.contours s _ c.args.at c.in_ok-count.count c.from.result c.in_ok-hints.hints c.in_ok-bbox.bbox c.in_ok-flags.flags.now c.read_points.new.glyphs.rest.now (in_slots c.args.slots.now) _
+    c.in_ok-count.ensures c.from.ensures t c.in_ok-read_points.ensures c.in_ok-hints.ensures c.in_ok-bbox.ensures refl refl refl refl
