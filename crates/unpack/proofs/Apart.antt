@@ -1,6 +1,5 @@
 -- A table that was taken apart.
-use Rattle.std.proofs.Common.{◌≡◌, ℕ, ◌*◌, ◌≤◌, Bool, true, false, leb, List, [], length, take, drop, None, Ok, Err, MatchBool, Result, sym, refl, ap, ◌∙◌, subst, arith}
-use Rattle.std.proofs.lemmas.List.{length-drop, length-take}
+use Rattle.std.proofs.Common.{◌≡◌, ℕ, Bool, true, false, leb, List, [], length, take, None, Ok, Err, MatchBool, MatchResult, Result, sym, refl, ap, ◌∙◌, subst, arith}
 use Rattle.glyph.specs.Causes.{at_glyph, no_glyph}
 use Rattle.glyph.specs.Glyphs.{Glyph}
 use Rattle.glyph.specs.Records.{fitting, ReadInto}
@@ -9,14 +8,14 @@ use Rattle.glyph.specs.declared.refusal.Refusal.{Refusal}
 use Rattle.read.specs.Answers.{then}
 use Rattle.read.specs.declared.error.ParseError.{ParseError}
 use Rattle.read.specs.declared.error.ParseError.TheVariants.{BadEof}
-use Rattle.woff2.proofs.Streams.{no_fault}
 use Rattle.woff2.specs.Bits.{bits}
-use Rattle.woff2.specs.Transformed.{bitmap_size, boxes_at, composites_at, cut, header_said, Streams, streams_fault, TakenApart}
+use Rattle.woff2.specs.Transformed.{header_said, Streams, streams_fault, TakenApart}
 use Rattle.woff2.specs.declared.header.GlyfHeader.{GlyfHeader}
 use Rattle.woff2.specs.declared.table.TransformedGlyphTable.{TransformedGlyphTable}
 use Rattle.unpack.specs.Glyphs.{box_bits, glyphs_said, table_said, unpacked}
 use Rattle.unpack.specs.Rests.{streams_of}
 use Rattle.unpack.specs.Runs.{table_bits, table_streams}
+use Rattle.unpack.specs.declared.sound.SoundTable.{SoundTable}
 use Rattle.unpack.proofs.Next.{numbered}
 use Rattle.unpack.proofs.Rested.{same_rest}
 
@@ -51,27 +50,11 @@ module _ (bs : List ℕ) where
         whole
         ∙ (ap (λ (b : List Bool). glyphs_said b [] (streams_of bs)) (sym bits_are) ∙ ap (glyphs_said (table_bits t) []) (sym streams_are))
 
-    -- The bitmap has a bit for each glyph.
-    pub bit_for_each : t.header.num_glyphs ≤ 8 * length t.bbox_bitmap.bytes.now
-    bit_for_each =
-        let a = taken_apart t h in
-        let s = a.1.1 in
-        let hd = header_said bs in
-        let sound = no_fault hd (length bs) a.1.0 in
-        let long : length t.bbox_bitmap.bytes.now ≡ length (cut (boxes_at hd) (bitmap_size hd.num_glyphs) bs) = ap length s.bitmap in
-        let same : t.header.num_glyphs ≡ hd.num_glyphs = ap (λ (g : GlyfHeader). g.num_glyphs) s.header in
-        omega (arith, length-take (bitmap_size hd.num_glyphs) (drop (boxes_at hd) bs), length-drop (boxes_at hd) bs)
+  abbrev ReadApart : Result SoundTable ParseError → Type 0
+  ReadApart r = MatchResult r (λ t. TakenApart bs (Ok t.table)) (λ e. TakenApart bs (Err e))
 
-    -- The components have as many bytes as the header says at most.
-    pub composites_short : length t.composites.bytes.now ≤ t.header.composite_size
-    composites_short =
-        let s = (taken_apart t h).1.1 in
-        let hd = header_said bs in
-        let same : t.header.composite_size ≡ hd.composite_size = ap (λ (g : GlyfHeader). g.composite_size) s.header in
-        omega (arith, ap length s.composites, length-take hd.composite_size (drop (composites_at hd) bs))
-
-  pub was_apart : (read : Result TransformedGlyphTable ParseError) (t : TransformedGlyphTable) → Ok t ≡ at_glyph no_glyph read → TakenApart bs read → TakenApart bs (Ok t)
-  was_apart read t given h = subst (TakenApart bs) (numbered no_glyph read t given) h
+  pub was_apart : (read : Result SoundTable ParseError) (t : SoundTable) → Ok t ≡ at_glyph no_glyph read → ReadApart read → TakenApart bs (Ok t.table)
+  was_apart read t given h = subst ReadApart (numbered no_glyph read t given) h
 
   pub read_apart : (t : TransformedGlyphTable) → TakenApart bs (Ok t) → (ls ls' : Lists) (r : Result ℕ Refusal) → ReadInto (then (glyphs_said (table_bits t) [] (table_streams t)) (fitting ls)) ls r ls' → ReadInto (unpacked bs ls) ls r ls'
   read_apart t h ls ls' r k =

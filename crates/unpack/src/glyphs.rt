@@ -20,7 +20,6 @@ pub(crate) fn read_glyph(
     slots: &mut Slots<'_>,
     at: Places,
 ) -> Result<Taken, ParseError>
-    requires { at.components + length streams.old.composites.rest.now < 2 ^ 32 }
     ensures same_lent { SameLent slots.old slots.new }
     ensures read { GlyphRead boxed (glyph_said boxed (left streams.old)) at (left streams.old) (left streams.new) (in_slots slots.old) (in_slots slots.new) result }
 {

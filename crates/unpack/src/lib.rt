@@ -8,6 +8,7 @@ mod parts;
 mod run;
 mod shapes;
 mod slots;
+mod sound;
 mod streams;
 mod table;
 mod taken;

@@ -18,7 +18,8 @@ pub(crate) fn read_components(
     at: usize,
 ) -> Result<(usize, bool), ParseError>
     requires { at < 2 ^ 32 }
-    ensures { MatchResult (components_said (suc (length ctxt.old.rest.now)) [] false ctxt.old.rest.now) (λ p. (result ≡ Ok (length p.0, p.1)) × (ctxt.new.rest.now ≡ p.2) × (components.new ≡ laid at p.0 components.old) × (length ctxt.new.rest.now + length p.0 ≤ length ctxt.old.rest.now)) (λ e. result ≡ Err e) }
+    ensures none_more { length ctxt.new.rest.now ≤ length ctxt.old.rest.now }
+    ensures read { MatchResult (components_said (suc (length ctxt.old.rest.now)) [] false ctxt.old.rest.now) (λ p. (result ≡ Ok (length p.0, p.1)) × (ctxt.new.rest.now ≡ p.2) × (components.new ≡ laid at p.0 components.old) × (length ctxt.new.rest.now + length p.0 ≤ length ctxt.old.rest.now)) (λ e. result ≡ Err e) }
 {
     let mut count: usize = 0;
     let mut have_instructions = false;

@@ -15,29 +15,26 @@ ghost use Rattle.woff2.specs.Bits.{bits};
 
 use crate::glyphs::{read_glyph, record_of};
 use crate::slots::Slots;
+use crate::sound::SoundTable;
 use crate::streams::Streams;
 use crate::taken::Taken;
 use glyph::{Places, Refusal, at_glyph, lay};
-use woff2::{BitSlice, TransformedGlyphTable};
+use woff2::BitSlice;
 
 /// Reads every glyph of a table, and lays each behind the one before. Returns how many places they need.
-pub(crate) fn read_glyphs(
-    table: &TransformedGlyphTable<'_>,
-    slots: &mut Slots<'_>,
-) -> Result<Places, Refusal>
-    requires { (table.now.header.num_glyphs ≤ 8 * length table.now.bbox_bitmap.bytes.now) × (length table.now.composites.bytes.now < 2 ^ 32) }
+pub(crate) fn read_glyphs(sound: &SoundTable<'_>, slots: &mut Slots<'_>) -> Result<Places, Refusal>
     ensures same_lent { SameLent slots.old slots.new }
-    ensures read { MatchResult (glyphs_said (table_bits table.now) [] (table_streams table.now)) (λ gs. (result ≡ Ok (needed gs)) × RunLaid gs (in_slots slots.old) (in_slots slots.new)) (λ e. result ≡ Err e) }
+    ensures read { MatchResult (glyphs_said (table_bits sound.now.table) [] (table_streams sound.now.table)) (λ gs. (result ≡ Ok (needed gs)) × RunLaid gs (in_slots slots.old) (in_slots slots.new)) (λ e. result ≡ Err e) }
 {
-    let mut streams = Streams::new(table);
-    let bitmap = BitSlice::new(table.bbox_bitmap.data());
+    let mut streams = Streams::new(sound);
+    let bitmap = BitSlice::new(sound.table.bbox_bitmap.data());
     let mut at = Places {
         ends: 0,
         points: 0,
         components: 0,
         instructions: 0,
     };
-    for i in 0..table.header.num_glyphs {
+    for i in 0..sound.table.header.num_glyphs {
         let boxed = bitmap.get(usize::from(i)).unwrap_or(false);
         at = read_next(&mut streams, boxed, i, slots, at)?;
     }

@@ -1,10 +1,8 @@
 //! The streams of a table as they are read.
-ghost use Rattle.unpack.specs.Cursors.{left};
-ghost use Rattle.unpack.specs.Runs.{table_streams};
-ghost use Rattle.std.specs.Prelude.{◌≡◌};
+ghost use Rattle.std.specs.Prelude.{◌≡◌, ◌^◌, ◌<◌, length};
 
+use crate::sound::SoundTable;
 use read::ReadCtxt;
-use woff2::TransformedGlyphTable;
 
 /// What is left to read of each stream.
 #[derive(Clone, Copy)]
@@ -16,21 +14,25 @@ pub(crate) struct Streams<'a> {
     pub(crate) composites: ReadCtxt<'a>,
     pub(crate) boxes: ReadCtxt<'a>,
     pub(crate) instructions: ReadCtxt<'a>,
+    ghost composites_fit: { length composites.rest.now < 2 ^ 32 },
 }
 
 impl<'a> Streams<'a> {
+    ghost use Rattle.unpack.specs.Cursors.{left};
+    ghost use Rattle.unpack.specs.Runs.{table_streams};
+
     /// The streams of a table, before anything is read.
-    pub(crate) fn new(table: &TransformedGlyphTable<'a>) -> Streams<'a>
-        ensures { left result ≡ table_streams table.now }
+    pub(crate) fn new(sound: &SoundTable<'a>) -> Streams<'a>
+        ensures { left result ≡ table_streams sound.now.table }
     {
         Streams {
-            contours: table.n_contour.ctxt(),
-            points: table.n_points.ctxt(),
-            flags: table.flags.ctxt(),
-            glyphs: table.glyphs.ctxt(),
-            composites: table.composites.ctxt(),
-            boxes: table.bboxes.ctxt(),
-            instructions: table.instructions.ctxt(),
+            contours: sound.table.n_contour.ctxt(),
+            points: sound.table.n_points.ctxt(),
+            flags: sound.table.flags.ctxt(),
+            glyphs: sound.table.glyphs.ctxt(),
+            composites: sound.table.composites.ctxt(),
+            boxes: sound.table.bboxes.ctxt(),
+            instructions: sound.table.instructions.ctxt(),
         }
     }
 }

@@ -8,8 +8,8 @@ ghost use Rattle.unpack.specs.Runs.{ListsLaid, RunLaid, table_bits, table_stream
 
 use crate::run::read_glyphs;
 use crate::slots::Slots;
+use crate::sound::SoundTable;
 use glyph::{Cause, Component, GlyphRecord, Lists, NO_GLYPH, Places, Point, Refusal, at_glyph};
-use woff2::TransformedGlyphTable;
 
 /// Reads a transformed glyf table, and lays its glyphs into the lists from their first places on. Returns how many
 /// glyphs there are. The whole table is read before anything is stored.
@@ -22,33 +22,31 @@ pub fn read_table(data: &[u8], lists: &mut Lists) -> Result<u16, Refusal>
 fn read_into(data: &[u8], lists: &mut Lists) -> Result<u16, Refusal>
     ensures { ReadInto (unpacked «data».now lists.old) lists.old result lists.new }
 {
-    let table = at_glyph(NO_GLYPH, TransformedGlyphTable::read(data))?;
-    fill(&table, lists)
+    let sound = at_glyph(NO_GLYPH, SoundTable::read(data))?;
+    fill(&sound, lists)
 }
 
 // The first walk only measures: it has no places to lay anything into.
-fn fill(table: &TransformedGlyphTable<'_>, lists: &mut Lists) -> Result<u16, Refusal>
-    requires { (table.now.header.num_glyphs ≤ 8 * length table.now.bbox_bitmap.bytes.now) × (length table.now.composites.bytes.now < 2 ^ 32) }
-    ensures { ReadInto (then (glyphs_said (table_bits table.now) [] (table_streams table.now)) (fitting lists.old)) lists.old result lists.new }
+fn fill(sound: &SoundTable<'_>, lists: &mut Lists) -> Result<u16, Refusal>
+    ensures { ReadInto (then (glyphs_said (table_bits sound.now.table) [] (table_streams sound.now.table)) (fitting lists.old)) lists.old result lists.new }
 {
-    let glyphs = table.header.num_glyphs;
-    let needed = read_glyphs(table, &mut Slots::none())?;
+    let glyphs = sound.table.header.num_glyphs;
+    let needed = read_glyphs(sound, &mut Slots::none())?;
     if !lists.have_room(glyphs, needed) {
         return Err(Refusal {
             cause: Cause::Lists,
             glyph: NO_GLYPH,
         });
     }
-    lay_glyphs(table, lists)?;
+    lay_glyphs(sound, lists)?;
     Ok(glyphs)
 }
 
-fn lay_glyphs(table: &TransformedGlyphTable<'_>, lists: &mut Lists) -> Result<Places, Refusal>
-    requires { (table.now.header.num_glyphs ≤ 8 * length table.now.bbox_bitmap.bytes.now) × (length table.now.composites.bytes.now < 2 ^ 32) }
-    ensures { MatchResult (glyphs_said (table_bits table.now) [] (table_streams table.now)) (λ gs. (result ≡ Ok (needed gs)) × ListsLaid gs lists.old lists.new) (λ e. result ≡ Err e) }
+fn lay_glyphs(sound: &SoundTable<'_>, lists: &mut Lists) -> Result<Places, Refusal>
+    ensures { MatchResult (glyphs_said (table_bits sound.now.table) [] (table_streams sound.now.table)) (λ gs. (result ≡ Ok (needed gs)) × ListsLaid gs lists.old lists.new) (λ e. result ≡ Err e) }
 {
     lay_slices(
-        table,
+        sound,
         lists.records.as_mut_slice(),
         lists.ends.as_mut_slice(),
         lists.points.as_mut_slice(),
@@ -58,15 +56,14 @@ fn lay_glyphs(table: &TransformedGlyphTable<'_>, lists: &mut Lists) -> Result<Pl
 }
 
 fn lay_slices(
-    table: &TransformedGlyphTable<'_>,
+    sound: &SoundTable<'_>,
     records: &mut [GlyphRecord],
     ends: &mut [u16],
     points: &mut [Point],
     components: &mut [Component],
     instructions: &mut [u8],
 ) -> Result<Places, Refusal>
-    requires { (table.now.header.num_glyphs ≤ 8 * length table.now.bbox_bitmap.bytes.now) × (length table.now.composites.bytes.now < 2 ^ 32) }
-    ensures { MatchResult (glyphs_said (table_bits table.now) [] (table_streams table.now)) (λ gs. (result ≡ Ok (needed gs)) × RunLaid gs (contents records.old ends.old points.old components.old instructions.old) (contents records.new ends.new points.new components.new instructions.new)) (λ e. result ≡ Err e) }
+    ensures { MatchResult (glyphs_said (table_bits sound.now.table) [] (table_streams sound.now.table)) (λ gs. (result ≡ Ok (needed gs)) × RunLaid gs (contents records.old ends.old points.old components.old instructions.old) (contents records.new ends.new points.new components.new instructions.new)) (λ e. result ≡ Err e) }
 {
     let mut slots = Slots {
         records,
@@ -75,5 +72,5 @@ fn lay_slices(
         components,
         instructions,
     };
-    read_glyphs(table, &mut slots)
+    read_glyphs(sound, &mut slots)
 }

@@ -17,8 +17,8 @@ loop-component-init c =
 pub loop-component-smaller : goal.loop-component-smaller
 loop-component-smaller c = let got = part_took c.loop-component.ctxt.rest.now c.read_component.new.ctxt.rest.now c.in_ok-component.component c.in_ok-component.ensures in omega (arith, got.1)
 
-pub returns-in_err-component : goal.returns-in_err-component
-returns-in_err-component c =
+pub returns-in_err-component-clause-read : goal.returns-in_err-component-clause-read
+returns-in_err-component-clause-read c =
     let inv = c.loop-component.invariant in
     let bs = c.loop-component.ctxt.rest.now in
     let p = err_from_is_err_and c.from_residual.result c.from_residual.ensures.1 in
@@ -52,8 +52,8 @@ loop-component-preserved c =
           ∙ ap (λ m. components_said (suc (length c.args.ctxt.now.rest.now) - (c.loop-component.count + 1)) (cs ++ part ∷ []) m rest) (sym c.marked-have_instructions.ensures)),
     )
 
-pub returns : goal.returns
-returns c =
+pub returns-clause-read : goal.returns-clause-read
+returns-clause-read c =
     let inv = c.loop-component.invariant in
     let cs = inv.0 in
     let part = c.in_ok-component.component in

@@ -25,13 +25,13 @@ loop-i-init c =
         few_points = omega arith;
         few_hints = omega arith;
         few_parts = omega (arith, ap (λ s. length s.composites) e);
-        same = ap (glyphs_said (table_bits c.args.table.now) []) (sym e);
+        same = ap (glyphs_said (table_bits c.args.sound.now.table) []) (sym e);
       },
     )
 
 pub returns-in_err-at-clause-read : goal.returns-in_err-at-clause-read
 returns-in_err-at-clause-read c =
-    let t = c.args.table.now in
+    let t = c.args.sound.now.table in
     let i = c.loop-i.i in
     let low : i < t.header.num_glyphs = omega arith in
     let bit =
@@ -39,7 +39,7 @@ returns-in_err-at-clause-read c =
     ∙ (ap (λ o. unwrap_or o false) c.get.ensures
     ∙ ap (λ (bs : List ℕ). unwrap_or (slice_get (bits bs) c.from.result) false) (c.new-bitmap.ensures ∙ c.data.ensures))
     in
-    let here = bit_here t.bbox_bitmap.bytes.now t.header.num_glyphs i c.from.result c.unwrap_or-boxed.result c.from.ensures low c.requires.0 bit in
+    let here = bit_here t.bbox_bitmap.bytes.now t.header.num_glyphs i c.from.result c.unwrap_or-boxed.result c.from.ensures low c.args.sound.now.bit_for_each bit in
     let p = err_from_is_err_and c.from_residual.result c.from_residual.ensures.1 in
     let missed = fault _ _ (λ q. behind c.loop-i.at q.0) _ (λ q h. h.0) c.in_err-at.ensures.read in
     when_refused _ _ _ _
@@ -48,7 +48,7 @@ returns-in_err-at-clause-read c =
 
 pub loop-i-preserved : goal.loop-i-preserved
 loop-i-preserved c =
-    let t = c.args.table.now in
+    let t = c.args.sound.now.table in
     let i = c.loop-i.i in
     let low : i < t.header.num_glyphs = omega arith in
     let bit =
@@ -56,7 +56,7 @@ loop-i-preserved c =
     ∙ (ap (λ o. unwrap_or o false) c.get.ensures
     ∙ ap (λ (bs : List ℕ). unwrap_or (slice_get (bits bs) c.from.result) false) (c.new-bitmap.ensures ∙ c.data.ensures))
     in
-    let here = bit_here t.bbox_bitmap.bytes.now t.header.num_glyphs i c.from.result c.unwrap_or-boxed.result c.from.ensures low c.requires.0 bit in (
+    let here = bit_here t.bbox_bitmap.bytes.now t.header.num_glyphs i c.from.result c.unwrap_or-boxed.result c.from.ensures low c.args.sound.now.bit_for_each bit in (
       same_through c.loop-i.invariant.0 c.read_next.ensures.same_lent,
       one_more (table_bits t) (table_streams t) (left c.loop-i.streams) (left c.read_next.new.streams) i c.unwrap_or-boxed.result c.loop-i.at c.in_ok-at.at (in_slots c.args.slots.now) (in_slots c.loop-i.slots) (in_slots c.read_next.new.slots) here c.loop-i.invariant.1
           c.in_ok-at.ensures.read,
@@ -64,7 +64,7 @@ loop-i-preserved c =
 
 pub returns-clause-read : goal.returns-clause-read
 returns-clause-read c =
-    let t = c.args.table.now in
+    let t = c.args.sound.now.table in
     let inv = c.loop-i.invariant.1 in
     let short : length (table_bits t) ≤ c.loop-i.i = omega (arith, length-take t.header.num_glyphs (bits t.bbox_bitmap.bytes.now)) in
     when_accepted _ _ _ _ (inv.same ∙ ap (λ bs. glyphs_said bs inv.gs (left c.loop-i.streams)) (drop_all c.loop-i.i (table_bits t) short)) (ap Ok inv.places, inv.run)

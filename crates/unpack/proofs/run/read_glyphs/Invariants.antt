@@ -7,4 +7,4 @@ use Rattle.unpack.proofs.run.read_glyphs.Given as goal
 abbrev pub invariant-loop-i : goal.invariant-loop-i
 invariant-loop-i l =
     SameLent l.initial.slots l.slots
-    × SoFar (table_bits l.table) (table_streams l.table) (left l.streams) l.i l.at (in_slots l.initial.slots) (in_slots l.slots)
+    × SoFar (table_bits l.sound.table) (table_streams l.sound.table) (left l.streams) l.i l.at (in_slots l.initial.slots) (in_slots l.slots)

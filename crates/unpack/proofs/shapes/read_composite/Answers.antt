@@ -10,7 +10,7 @@ use Rattle.unpack.proofs.shapes.read_composite.Goals as goal
 pub returns-in_err-hints-clause-read : goal.returns-in_err-hints-clause-read
 returns-in_err-hints-clause-read c =
     let s = left c.args.streams.now in
-    let a = told _ _ _ c.in_ok-count.ensures in
+    let a = told _ _ _ c.in_ok-count.ensures.read in
     let mark = ap (λ (p : ℕ × Bool). p.1) (same_ok _ _ a.2.0) in
     let p = err_from_is_err_and c.from_residual-in_err-hints.result c.from_residual-in_err-hints.ensures.1 in
     let missed = fault _ _ (λ q. length q.0) _ (λ q h. h.0) c.in_err-hints.ensures in
@@ -22,7 +22,7 @@ returns-in_err-hints-clause-read c =
 pub returns-in_err-bbox-clause-read : goal.returns-in_err-bbox-clause-read
 returns-in_err-bbox-clause-read c =
     let s = left c.args.streams.now in
-    let a = told _ _ _ c.in_ok-count.ensures in
+    let a = told _ _ _ c.in_ok-count.ensures.read in
     let i = told _ _ _ c.in_ok-hints.ensures in
     let mark = ap (λ (p : ℕ × Bool). p.1) (same_ok _ _ a.2.0) in
     let p = err_from_is_err_and c.from_residual-in_err-bbox.result c.from_residual-in_err-bbox.ensures.1 in
@@ -35,4 +35,4 @@ returns-in_err-bbox-clause-read c =
 pub returns-clause-read : goal.returns-clause-read
 returns-clause-read c =
     composite_answer c.args.boxed c.in_ok-count.mark (left c.args.streams.now) _ c.args.at c.in_ok-count.count c.in_ok-hints.hints c.in-Some.bbox _ (in_slots c.args.slots.now) _
-    c.in_ok-count.ensures c.in_ok-hints.ensures c.in_ok-bbox.ensures c.in-Some.is refl refl refl refl refl refl
+    c.in_ok-count.ensures.read c.in_ok-hints.ensures c.in_ok-bbox.ensures c.in-Some.is refl refl refl refl refl refl

@@ -10,7 +10,7 @@ pub returns : goal.returns
 returns c =
     let ls = c.args.lists.now in
     let new = c.lay_slices.new in
-    MatchResult-weaker (glyphs_said (table_bits c.args.table.now) [] (table_streams c.args.table.now)) c.lay_slices.ensures
+    MatchResult-weaker (glyphs_said (table_bits c.args.sound.now.table) [] (table_streams c.args.sound.now.table)) c.lay_slices.ensures
     (λ gs h. (
       h.0,
       record {
