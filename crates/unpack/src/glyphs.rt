@@ -46,7 +46,7 @@ fn unsigned(contours: i16) -> u16
     requires { pos 0 <ℤ contours }
     ensures { contours ≡ pos result }
 {
-    contours as u16
+    contours.cast_unsigned()
 }
 
 /// The record of a glyph that lies from `at` on. A box that the table does not have is worked out from the points.
@@ -79,10 +79,7 @@ pub(crate) fn record_of(taken: Taken, points: &[Point], at: Places) -> GlyphReco
 fn box_of(own: Option<BoundingBox>, points: &[Point]) -> BoundingBox
     ensures { result ≡ box_by own points.now }
 {
-    match own {
-        Some(bbox) => bbox,
-        None => bounding_box(points),
-    }
+    own.unwrap_or_else(|| bounding_box(points))
 }
 
 // The points of a glyph, where the list has them all.
@@ -90,9 +87,5 @@ fn own_points<'a>(points: &'a [Point], start: u32, len: u16) -> &'a [Point]
     ensures { result.now ≡ own_points points.now start len }
 {
     let start = start as usize;
-    let end = start + usize::from(len);
-    if end > points.len() {
-        return &[];
-    }
-    &points[start..end]
+    points.get(start..start + usize::from(len)).unwrap_or(&[])
 }

@@ -36,10 +36,10 @@ pub(crate) fn read_ends(
 fn next_sum(points: u16, size: u16) -> Result<u16, ParseError>
     ensures { MatchBool (both (nat_lt 0 (points + size)) (nat_le (points + size) 65535)) (result ≡ Ok (points + size)) (result ≡ Err BadValue) }
 {
-    match points.checked_add(size) {
-        Some(sum) if sum > 0 => Ok(sum),
-        _ => Err(ParseError::BadValue),
-    }
+    points
+        .checked_add(size)
+        .filter(|sum| *sum > 0)
+        .ok_or(ParseError::BadValue)
 }
 
 /// Reads a pair of steps for each flag, and lays the points that they lead to.
@@ -57,12 +57,10 @@ pub(crate) fn read_points(
         y: 0,
         on_curve: true,
     };
-    let mut place = at;
-    for flag in flags {
+    for (i, flag) in flags.iter().enumerate() {
         let next = read_point(last, *flag, glyphs)?;
-        lay(points, place, next);
+        lay(points, at + i, next);
         last = next;
-        place += 1;
     }
     Ok(())
 }
@@ -85,8 +83,5 @@ fn read_point(last: Point, flag: u8, glyphs: &mut ReadCtxt<'_>) -> Result<Point,
 fn moved(from: i16, step: i16) -> Result<i16, ParseError>
     ensures { MatchBool (placed (from +ℤ step)) (result ≡ Ok (from +ℤ step)) (result ≡ Err BadValue) }
 {
-    match from.checked_add(step) {
-        Some(position) => Ok(position),
-        None => Err(ParseError::BadValue),
-    }
+    from.checked_add(step).ok_or(ParseError::BadValue)
 }

@@ -8,50 +8,49 @@ use Rattle.unpack.proofs.Points.{accepted, ended, rejected, turned}
 use Rattle.unpack.proofs.Judged.{when_accepted, when_refused}
 use Rattle.unpack.proofs.outline.read_points.Goals as goal
 
-pub loop-flag-preserved : goal.loop-flag-preserved
-loop-flag-preserved c =
-    let inv = c.loop-flag.invariant in
+pub loop-i-preserved : goal.loop-i-preserved
+loop-i-preserved c =
+    let inv = c.loop-i.invariant in
     let ps = inv.0 in
-    let i = c.loop-flag.flag-index in
+    let i = c.loop-i.i in
     let p = c.in_ok-next.next in
-    let bs = c.loop-flag.glyphs.rest.now in
+    let bs = c.loop-i.glyphs.rest.now in
     let rest = c.read_point.new.glyphs.rest.now in
     let low : i < length c.args.flags.now = omega arith in
     let long : length (ps ++ p ∷ []) ≡ i + 1 = length_push ps p ∙ omega (arith, inv.1) in
     let put : c.lay.new.list ≡ laid c.args.at (ps ++ p ∷ []) c.args.points.now =
     c.lay.ensures
-    ∙ (ap (laid c.loop-flag.place (p ∷ [])) inv.3
-    ∙ sym (laid_more c.args.at c.loop-flag.place ps p c.args.points.now (omega (arith, inv.1, inv.2))))
+    ∙ (ap (laid (c.args.at + i) (p ∷ [])) inv.2
+    ∙ sym (laid_more c.args.at (c.args.at + i) ps p c.args.points.now (omega (arith, inv.1))))
     in (
       ps ++ p ∷ [],
       long,
-      omega (arith, inv.2),
       put,
-      inv.4
-          ∙ turned c.args.flags.now bs i (get_or c.args.flags.now i 0) ps c.loop-flag.last low refl p rest
-          (accepted (point_said c.loop-flag.last (get_or c.args.flags.now i 0) bs) rest p c.in_ok-next.ensures),
+      inv.3
+          ∙ turned c.args.flags.now bs i (get_or c.args.flags.now i 0) ps c.loop-i.last low refl p rest
+          (accepted (point_said c.loop-i.last (get_or c.args.flags.now i 0) bs) rest p c.in_ok-next.ensures),
     )
 
 pub returns-in_err-next : goal.returns-in_err-next
 returns-in_err-next c =
-    let inv = c.loop-flag.invariant in
-    let i = c.loop-flag.flag-index in
-    let bs = c.loop-flag.glyphs.rest.now in
+    let inv = c.loop-i.invariant in
+    let i = c.loop-i.i in
+    let bs = c.loop-i.glyphs.rest.now in
     let rest = c.read_point.new.glyphs.rest.now in
     let low : i < length c.args.flags.now = omega arith in
     let p = err_from_is_err_and c.from_residual.result c.from_residual.ensures.1 in
     let e =
-    inv.4
-    ∙ ended c.args.flags.now bs i (get_or c.args.flags.now i 0) inv.0 c.loop-flag.last low refl c.in_err-next.field-0.0
-    (rejected (point_said c.loop-flag.last (get_or c.args.flags.now i 0) bs) rest c.in_err-next.field-0.0 c.in_err-next.ensures)
+    inv.3
+    ∙ ended c.args.flags.now bs i (get_or c.args.flags.now i 0) inv.0 c.loop-i.last low refl c.in_err-next.field-0.0
+    (rejected (point_said c.loop-i.last (get_or c.args.flags.now i 0) bs) rest c.in_err-next.field-0.0 c.in_err-next.ensures)
     in
     when_refused _ _ _ _ e (p.1 ∙ ap Err p.2)
 
 pub returns : goal.returns
 returns c =
-    let inv = c.loop-flag.invariant in
+    let inv = c.loop-i.invariant in
     let e =
-    inv.4
-    ∙ ap (λ fs. points_said fs inv.0 c.loop-flag.last c.loop-flag.glyphs.rest.now) (drop_all c.loop-flag.flag-index c.args.flags.now c.loop-flag-test.false)
+    inv.3
+    ∙ ap (λ fs. points_said fs inv.0 c.loop-i.last c.loop-i.glyphs.rest.now) (drop_all c.loop-i.i c.args.flags.now c.loop-i-test.false)
     in
-    when_accepted _ _ _ _ e (refl, refl, inv.3)
+    when_accepted _ _ _ _ e (refl, refl, inv.2)
