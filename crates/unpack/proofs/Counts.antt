@@ -1,18 +1,10 @@
 -- A glyph by its contour count.
-use Rattle.std.proofs.Common.{◌≡◌, ℕ, zero, suc, ◌<◌, ◌≤◌, Bool, true, List, length, take, drop, ℤ, pos, negsuc, ◌<ℤ◌, sym, refl, ap, ◌∙◌, arith, w16, SFits, to_z, of_z}
-use lib.Signed.{lt_z}
-use Rattle.std.proofs.lemmas.Int.{ints, to_z-of_z}
+use Rattle.std.proofs.Common.{◌≡◌, ℕ, zero, suc, ◌<◌, ◌≤◌, Bool, List, length, take, drop, ℤ, pos, negsuc, ◌<ℤ◌, sym, refl, ap, ◌∙◌, arith}
+use Rattle.std.proofs.lemmas.Int.{ints}
 use Rattle.binary.specs.Bytes.{i16_said}
 use Rattle.read.proofs.Thens.{front_is}
 use Rattle.unpack.specs.Glyphs.{composite_said, glyph_by, glyph_said, past_count, simple_said}
 use Rattle.unpack.specs.Rests.{Rest}
-
--- A test of a signed number's bits is a test of the number.
-pub positive : (z : ℤ) → SFits w16 z → lt_z (pos 0) (to_z w16 (of_z w16 z)) ≡ true → pos 0 <ℤ z
-positive z fits t = grind (arith, ints, to_z-of_z)
-
-pub minus_one : (z : ℤ) → SFits w16 z → of_z w16 z ≡ 65535 → z ≡ negsuc 0
-minus_one z fits t = omega (arith, ints)
 
 abbrev Counted : ℤ → List ℕ → List ℕ → Type 0
 Counted z before after = (2 ≤ length before) × (z ≡ i16_said (take 2 before)) × (after ≡ drop 2 before)

@@ -1,5 +1,5 @@
 //! A glyph of any kind.
-ghost use Rattle.std.specs.Prelude.{◌≡◌, ◌+◌, ◌^◌, ◌<◌, length, pos, ◌<ℤ◌};
+ghost use Rattle.std.specs.Prelude.{◌≡◌};
 ghost use Rattle.unpack.specs.Contents.{in_slots, SameLent};
 ghost use Rattle.unpack.specs.Cursors.{left};
 ghost use Rattle.unpack.specs.Glyphs.{glyph_said};
@@ -23,30 +23,19 @@ pub(crate) fn read_glyph(
     ensures same_lent { SameLent slots.old slots.new }
     ensures read { GlyphRead boxed (glyph_said boxed (left streams.old)) at (left streams.old) (left streams.new) (in_slots slots.old) (in_slots slots.new) result }
 {
-    let contours = streams.contours.read::<I16Be>()?;
-    if contours > 0 {
-        read_simple(streams, boxed, unsigned(contours), slots, at)
-    } else if contours == -1 {
-        read_composite(streams, boxed, slots, at)
-    } else if contours == 0 && !boxed {
-        Ok(Taken {
+    match streams.contours.read::<I16Be>()? {
+        contours @ 1.. => read_simple(streams, boxed, contours.cast_unsigned(), slots, at),
+        -1 => read_composite(streams, boxed, slots, at),
+        0 if !boxed => Ok(Taken {
             kind: GlyphKind::Empty,
             bbox: None,
             ends: 0,
             points: 0,
             components: 0,
             instructions: 0,
-        })
-    } else {
-        Err(ParseError::BadValue)
+        }),
+        _ => Err(ParseError::BadValue),
     }
-}
-
-fn unsigned(contours: i16) -> u16
-    requires { pos 0 <ℤ contours }
-    ensures { contours ≡ pos result }
-{
-    contours.cast_unsigned()
 }
 
 /// The record of a glyph that lies from `at` on. A box that the table does not have is worked out from the points.

@@ -1,17 +1,14 @@
 //! Glyphs, one after the other.
-ghost use Rattle.std.specs.Prelude.{◌≡◌, ◌+◌, ◌*◌, ◌^◌, ◌<◌, ◌≤◌, false, [], ◌∷◌, length, Ok, Err, MatchResult};
+ghost use Rattle.std.specs.Prelude.{◌≡◌, ◌+◌, ◌^◌, ◌<◌, ◌≤◌, [], ◌∷◌, length, Ok, Err, MatchResult};
 ghost use Rattle.glyph.specs.Causes.{at_glyph};
 ghost use Rattle.glyph.specs.Glyphs.{components_of, ends_of, instructions_of, points_of};
 ghost use Rattle.glyph.specs.Laying.{laid};
 ghost use Rattle.glyph.specs.Records.{behind, needed, record_of};
-ghost use Rattle.std.specs.List.{slice_get};
-ghost use Rattle.std.specs.Option.{unwrap_or};
 ghost use Rattle.unpack.specs.Contents.{in_slots, SameLent};
 ghost use Rattle.unpack.specs.Cursors.{left};
 ghost use Rattle.unpack.specs.Glyphs.{glyph_said, glyphs_said};
 ghost use Rattle.unpack.specs.Runs.{RunLaid, table_bits, table_streams};
 ghost use Rattle.unpack.specs.Taken.{GlyphLaid, taken_behind};
-ghost use Rattle.woff2.specs.Bits.{bits};
 
 use crate::glyphs::{read_glyph, record_of};
 use crate::slots::Slots;

@@ -1,5 +1,5 @@
 //! A glyph of each kind.
-ghost use Rattle.std.specs.Prelude.{◌≡◌, ◌+◌, ◌^◌, ◌<◌, length, Ok, Err, MatchResult};
+ghost use Rattle.std.specs.Prelude.{◌≡◌, length, Ok, Err, MatchResult};
 ghost use Rattle.glyph.specs.Laying.{laid};
 ghost use Rattle.unpack.specs.Contents.{in_slots, SameLent};
 ghost use Rattle.unpack.specs.Cursors.{left};
@@ -17,7 +17,8 @@ use glyph::{GlyphKind, Places};
 use read::ReadCtxt;
 use read::error::ParseError;
 
-// A glyph's own box, if its bit is set.
+// A glyph's own box, if its bit is set. An `if`: the contract of `bool::then` does not say that where the bit is not set
+// the stream is as it was.
 fn own_box(boxed: bool, boxes: &mut ReadCtxt<'_>) -> Result<Option<BoundingBox>, ParseError>
     ensures { MatchResult (box_field boxed boxes.old.rest.now) (λ p. (result ≡ Ok p.0) × (boxes.new.rest.now ≡ p.1)) (λ e. result ≡ Err e) }
 {

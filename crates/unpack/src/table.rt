@@ -1,5 +1,5 @@
 //! A table into the lists.
-ghost use Rattle.std.specs.Prelude.{◌≡◌, ◌*◌, ◌^◌, ◌<◌, ◌≤◌, [], length, Ok, Err, MatchResult};
+ghost use Rattle.std.specs.Prelude.{◌≡◌, [], Ok, Err, MatchResult};
 ghost use Rattle.glyph.specs.Records.{fitting, needed, ReadInto};
 ghost use Rattle.read.specs.Answers.{then};
 ghost use Rattle.unpack.specs.Contents.{contents};
