@@ -1,7 +1,6 @@
 //! Lists of chosen lengths.
 #![tactic(auto)]
 
-mod copies;
 mod room;
 mod zero;
 

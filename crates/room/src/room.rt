@@ -2,7 +2,6 @@
 ghost use Rattle.room.specs.Rooms.{Zeroed};
 ghost use Rattle.std.specs.Prelude.{IfOk};
 
-use crate::copies::copies;
 use crate::zero;
 use binary::LongHorMetric;
 use glyph::{GlyphRecord, Lists, Point};
@@ -26,13 +25,13 @@ impl Room {
         ensures { IfOk result (λ ls. Zeroed self ls) }
     {
         Ok(Lists {
-            records: copies(heap, GlyphRecord::default(), self.records)?,
-            ends: copies(heap, 0, self.ends)?,
-            points: copies(heap, Point::default(), self.points)?,
-            components: copies(heap, zero::COMPONENT, self.components)?,
-            instructions: copies(heap, 0, self.instructions)?,
-            full: copies(heap, LongHorMetric::default(), self.full)?,
-            tail: copies(heap, 0, self.tail)?,
+            records: vec![in heap; GlyphRecord::default(); self.records]?,
+            ends: vec![in heap; 0; self.ends]?,
+            points: vec![in heap; Point::default(); self.points]?,
+            components: vec![in heap; zero::COMPONENT; self.components]?,
+            instructions: vec![in heap; 0; self.instructions]?,
+            full: vec![in heap; LongHorMetric::default(); self.full]?,
+            tail: vec![in heap; 0; self.tail]?,
         })
     }
 }
