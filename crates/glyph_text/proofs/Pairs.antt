@@ -1,6 +1,5 @@
 -- Pairs of digits, one after the other.
-use Rattle.std.proofs.Common.{◌≡◌, ℕ, ◌+◌, ◌*◌, ◌<◌, List, [], ◌∷◌, ◌++◌, length, drop, Some, None, Option, sym, refl, ap, ◌∙◌, append_assoc, arith}
-use Rattle.std.proofs.lemmas.List.{drop-drop}
+use Rattle.std.proofs.Common.{◌≡◌, ℕ, ◌<◌, List, [], ◌∷◌, ◌++◌, length, min, Some, None, Option, sym, refl, ap, ◌∙◌, append_assoc, arith}
 use Rattle.glyph_text.specs.Hex.{followed, pair_said, pairs}
 
 -- Bytes in front of what else was said.
@@ -8,22 +7,19 @@ abbrev pub behind : List ℕ → Option (List ℕ) → Option (List ℕ)
 behind bs None = None
 behind bs (Some cs) = Some (bs ++ cs)
 
-pub behind_none : (said : Option (List ℕ)) → said ≡ behind [] said
-behind_none None = refl
-behind_none (Some bs) = refl
+byte_first : (bs : List ℕ) (b : ℕ) (said : Option (List ℕ)) → behind bs (followed (Some b) said) ≡ behind (bs ++ b ∷ []) said
+byte_first bs b None = refl
+byte_first bs b (Some cs) = ap Some (sym (append_assoc bs (b ∷ []) cs))
 
-pub behind_followed : (bs : List ℕ) (b : ℕ) (said : Option (List ℕ)) → behind bs (followed (Some b) said) ≡ behind (bs ++ b ∷ []) said
-behind_followed bs b None = refl
-behind_followed bs b (Some cs) = ap Some (sym (append_assoc bs (b ∷ []) cs))
+-- What is said from a chunk of two digits on, or from the last digit alone, begins with that chunk.
+chunk_first : (digits rest : List ℕ) → 0 < length (digits ++ rest) → length digits ≡ min 2 (length (digits ++ rest)) → pairs (digits ++ rest) ≡ followed (pair_said digits) (pairs rest)
+chunk_first [] rest some size = absurd (omega arith)
+chunk_first (x ∷ []) [] some size = refl
+chunk_first (x ∷ []) (y ∷ rest) some size = absurd (omega arith)
+chunk_first (x ∷ y ∷ []) rest some size = refl
+chunk_first (x ∷ y ∷ z ∷ zs) rest some size = absurd (omega arith)
 
-pairs_first : (xs : List ℕ) → 0 < length xs → pairs xs ≡ followed (pair_said xs) (pairs (drop 2 xs))
-pairs_first [] h = absurd (omega arith)
-pairs_first (x ∷ []) h = refl
-pairs_first (x ∷ y ∷ rest) h = refl
-
--- What is said from pair `i` on begins with that pair.
-pub pairs_at : (xs : List ℕ) (i : ℕ) → 0 < length (drop (2 * i) xs) → pairs (drop (2 * i) xs) ≡ followed (pair_said (drop (2 * i) xs)) (pairs (drop (2 * (i + 1)) xs))
-pairs_at xs i h =
-    let next : 2 * i + 2 ≡ 2 * (i + 1) = omega arith in
-    pairs_first (drop (2 * i) xs) h
-    ∙ ap (λ ys. followed (pair_said (drop (2 * i) xs)) (pairs ys)) (drop-drop 2 (2 * i) xs ∙ ap (λ n. drop n xs) next)
+-- The byte that a chunk says goes behind those that were said before it.
+pub chunk_more : (bs digits rest : List ℕ) (b : ℕ) → pair_said digits ≡ Some b → 0 < length (digits ++ rest) → length digits ≡ min 2 (length (digits ++ rest)) → behind bs (pairs (digits ++ rest)) ≡ behind (bs ++ b ∷ []) (pairs rest)
+chunk_more bs digits rest b said some size =
+    ap (behind bs) (chunk_first digits rest some size ∙ ap (λ p. followed p (pairs rest)) said) ∙ byte_first bs b (pairs rest)

@@ -5,11 +5,14 @@ use std::fmt;
 
 impl Entry for Component {
     fn show<W: fmt::Write>(&self, f: &mut fmt::Formatter<W>) -> fmt::Result {
-        let flags = self.flags;
-        let index = self.glyph_index;
-        let argument1 = value(self.argument1);
-        let argument2 = value(self.argument2);
-        write!(f, "{flags:04x}:{index}:{argument1},{argument2}:")?;
+        write!(
+            f,
+            "{:04x}:{}:{},{}:",
+            self.flags,
+            self.glyph_index,
+            value(self.argument1),
+            value(self.argument2)
+        )?;
         show_scale(self.scale, f)
     }
 }
@@ -26,21 +29,10 @@ fn value(argument: CompositeGlyphArgument) -> i32 {
 fn show_scale<W: fmt::Write>(scale: CompositeGlyphScale, f: &mut fmt::Formatter<W>) -> fmt::Result {
     match scale {
         CompositeGlyphScale::None => f.write_str("-"),
-        CompositeGlyphScale::Scale(scale) => {
-            let scale = scale.0;
-            write!(f, "{scale}")
-        }
-        CompositeGlyphScale::XY { x_scale, y_scale } => {
-            let x_scale = x_scale.0;
-            let y_scale = y_scale.0;
-            write!(f, "{x_scale},{y_scale}")
-        }
+        CompositeGlyphScale::Scale(scale) => write!(f, "{}", scale.0),
+        CompositeGlyphScale::XY { x_scale, y_scale } => write!(f, "{},{}", x_scale.0, y_scale.0),
         CompositeGlyphScale::Matrix { xx, xy, yx, yy } => {
-            let xx = xx.0;
-            let xy = xy.0;
-            let yx = yx.0;
-            let yy = yy.0;
-            write!(f, "{xx},{xy},{yx},{yy}")
+            write!(f, "{},{},{},{}", xx.0, xy.0, yx.0, yy.0)
         }
     }
 }

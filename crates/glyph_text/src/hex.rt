@@ -1,12 +1,13 @@
 //! Bytes in hexadecimal.
 ghost use Rattle.std.specs.Prelude.{◌≡◌, ◌<◌, IfSome};
-ghost use Rattle.glyph_text.specs.Hex.{digit_said, hex_said, is_dash, pair_said, pairs, Read};
+ghost use Rattle.glyph_text.specs.declared.hex.HexError.TheVariants.{NoMemory};
+ghost use Rattle.glyph_text.specs.Hex.{digit_said, hex_said, pair_said, pairs, Read};
 
-use std::alloc::Global;
+use std::alloc::{AllocFailed, Global};
 use std::fmt;
 
 /// Why a text was not taken for bytes.
-#[derive(Clone, Copy)]
+#[derive(Clone, Copy, Debug, PartialEq, Eq)]
 pub enum HexError {
     /// It is neither `-` nor pairs of lower-case digits.
     NotHex,
@@ -14,44 +15,40 @@ pub enum HexError {
     NoMemory,
 }
 
+impl<T: Drop> From<AllocFailed<T>> for HexError {
+    ghost from_gives = { λ _ e. e ≡ NoMemory };
+
+    fn from(_e: AllocFailed<T>) -> HexError {
+        HexError::NoMemory
+    }
+}
+
 /// The bytes that a text spells: two lower-case digits to a byte, `-` for none.
 pub fn read_hex(heap: Global, text: &[u8]) -> Result<Vec<u8>, HexError>
     ensures { Read (hex_said text.now) result }
 {
-    if is_dash(text) {
-        return Ok(Vec::new(heap));
+    match text {
+        b"-" => Ok(Vec::new(heap)),
+        [] => Err(HexError::NotHex),
+        _ => read_pairs(heap, text),
     }
-    if text.is_empty() {
-        return Err(HexError::NotHex);
-    }
-    read_pairs(heap, text)
 }
 
-fn is_dash(text: &[u8]) -> bool
-    ensures { result ≡ is_dash text.now }
-{
-    text.len() == 1 && text[0] == b'-'
-}
-
+#[tactic(auto, using(crate::proofs::Pairs::chunk_more))]
 fn read_pairs(heap: Global, text: &[u8]) -> Result<Vec<u8>, HexError>
     ensures { Read (pairs text.now) result }
 {
     let mut bytes = Vec::new(heap);
-    for i in 0..text.len() / 2 + text.len() % 2 {
-        let Some(byte) = first_pair(&text[2 * i..]) else {
-            return Err(HexError::NotHex);
-        };
-        if bytes.push(byte).is_err() {
-            return Err(HexError::NoMemory);
-        }
+    for digits in text.chunks(2) {
+        bytes.push(byte(digits).ok_or(HexError::NotHex)?)?;
     }
     Ok(bytes)
 }
 
-fn first_pair(text: &[u8]) -> Option<u8>
-    ensures { result ≡ pair_said text.now }
+fn byte(digits: &[u8]) -> Option<u8>
+    ensures { result ≡ pair_said digits.now }
 {
-    let [high, low, ..] = text else {
+    let [high, low, ..] = digits else {
         return None;
     };
     let high = digit(*high)?;

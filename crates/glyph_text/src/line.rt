@@ -21,29 +21,32 @@ impl fmt::Display for GlyphText<'_> {
 }
 
 fn show_simple<W: fmt::Write>(view: GlyphView<'_>, f: &mut fmt::Formatter<W>) -> fmt::Result {
-    let ends = Listed(view.ends);
-    let points = Listed(view.points);
-    let instructions = Hex(view.instructions);
     f.write_str("simple ")?;
     show_box(view.bbox, f)?;
     write!(
         f,
-        " ends {ends} points {points} instructions {instructions}"
+        " ends {} points {} instructions {}",
+        Listed(view.ends),
+        Listed(view.points),
+        Hex(view.instructions)
     )
 }
 
 fn show_composite<W: fmt::Write>(view: GlyphView<'_>, f: &mut fmt::Formatter<W>) -> fmt::Result {
-    let components = Listed(view.components);
-    let instructions = Hex(view.instructions);
     f.write_str("composite ")?;
     show_box(view.bbox, f)?;
-    write!(f, " components {components} instructions {instructions}")
+    write!(
+        f,
+        " components {} instructions {}",
+        Listed(view.components),
+        Hex(view.instructions)
+    )
 }
 
 fn show_box<W: fmt::Write>(bbox: BoundingBox, f: &mut fmt::Formatter<W>) -> fmt::Result {
-    let x_min = bbox.x_min;
-    let y_min = bbox.y_min;
-    let x_max = bbox.x_max;
-    let y_max = bbox.y_max;
-    write!(f, "box {x_min} {y_min} {x_max} {y_max}")
+    write!(
+        f,
+        "box {} {} {} {}",
+        bbox.x_min, bbox.y_min, bbox.x_max, bbox.y_max
+    )
 }

@@ -3,7 +3,8 @@ use binary::LongHorMetric;
 use glyph::Point;
 use std::fmt;
 
-/// What can stand in a list that is shown.
+/// What can stand in a list that is shown. `Display` can be written only beside its type, and the types of some lists are
+/// of other crates.
 pub trait Entry {
     fn show<W: fmt::Write>(&self, f: &mut fmt::Formatter<W>) -> fmt::Result;
 }
@@ -41,17 +42,12 @@ impl Entry for i16 {
 
 impl Entry for Point {
     fn show<W: fmt::Write>(&self, f: &mut fmt::Formatter<W>) -> fmt::Result {
-        let x = self.x;
-        let y = self.y;
-        let on_curve = u8::from(self.on_curve);
-        write!(f, "{x},{y},{on_curve}")
+        write!(f, "{},{},{}", self.x, self.y, u8::from(self.on_curve))
     }
 }
 
 impl Entry for LongHorMetric {
     fn show<W: fmt::Write>(&self, f: &mut fmt::Formatter<W>) -> fmt::Result {
-        let advance = self.advance_width;
-        let bearing = self.lsb;
-        write!(f, "{advance},{bearing}")
+        write!(f, "{},{}", self.advance_width, self.lsb)
     }
 }
