@@ -2,24 +2,33 @@
 use crate::report::Report;
 use read::error::ParseError;
 use std::fmt;
-use woff2::{GlyfHeader, Span};
+use woff2::GlyfHeader;
+
+const STREAMS: [&str; 7] = [
+    "contours",
+    "point counts",
+    "flags",
+    "glyph data",
+    "components",
+    "boxes",
+    "instructions",
+];
 
 impl fmt::Display for Report {
     fn fmt<W: fmt::Write>(&self, f: &mut fmt::Formatter<W>) -> fmt::Result {
-        let bytes = self.bytes;
-        let checksum = self.checksum;
-        writeln!(f, "bytes           {bytes}")?;
-        writeln!(f, "checksum        {checksum:08x}")?;
+        writeln!(f, "bytes           {}", self.bytes)?;
+        writeln!(f, "checksum        {:08x}", self.checksum)?;
         match &self.header {
             Ok(header) => {
                 show_header(header, f)?;
                 show_verdict(self, header, f)
             }
             Err(error) => {
-                let number = error.number();
                 writeln!(
                     f,
-                    "refused         {number}: the header has 36 bytes, and the table has only {bytes}"
+                    "refused         {}: the header has 36 bytes, and the table has only {}",
+                    error.number(),
+                    self.bytes
                 )
             }
         }
@@ -27,27 +36,12 @@ impl fmt::Display for Report {
 }
 
 fn show_header<W: fmt::Write>(header: &GlyfHeader, f: &mut fmt::Formatter<W>) -> fmt::Result {
-    let glyphs = header.num_glyphs;
-    let bitmap = header.bitmap_size();
-    writeln!(f, "glyphs          {glyphs}")?;
+    writeln!(f, "glyphs          {}", header.num_glyphs)?;
     show_format(header.index_format, f)?;
-    let [
-        contours,
-        points,
-        flags,
-        glyph_data,
-        components,
-        boxes,
-        instructions,
-    ] = header.spans();
-    show_span("contours", contours, f)?;
-    show_span("point counts", points, f)?;
-    show_span("flags", flags, f)?;
-    show_span("glyph data", glyph_data, f)?;
-    show_span("components", components, f)?;
-    show_span("boxes", boxes, f)?;
-    show_span("instructions", instructions, f)?;
-    writeln!(f, "box bitmap      size {bitmap}")
+    for (name, span) in STREAMS.iter().zip(header.spans()) {
+        writeln!(f, "{name:<15} place {} size {}", span.place, span.size)?;
+    }
+    writeln!(f, "box bitmap      size {}", header.bitmap_size())
 }
 
 fn show_format<W: fmt::Write>(format: u16, f: &mut fmt::Formatter<W>) -> fmt::Result {
@@ -58,42 +52,50 @@ fn show_format<W: fmt::Write>(format: u16, f: &mut fmt::Formatter<W>) -> fmt::Re
     }
 }
 
-fn show_span<W: fmt::Write>(name: &str, span: Span, f: &mut fmt::Formatter<W>) -> fmt::Result {
-    let place = span.place;
-    let size = span.size;
-    writeln!(f, "{name:<15} place {place} size {size}")
-}
-
 fn show_verdict<W: fmt::Write>(
     report: &Report,
     header: &GlyfHeader,
     f: &mut fmt::Formatter<W>,
 ) -> fmt::Result {
-    let Err(error) = &report.streams else {
-        return writeln!(f, "streams         all inside the table");
-    };
-    let number = error.number();
-    let bytes = report.bytes;
-    let bitmap = header.bitmap_size();
-    let bbox_size = header.bbox_size;
+    match report.streams {
+        Ok(()) => writeln!(f, "streams         all inside the table"),
+        Err(error) => {
+            write!(f, "refused         {}: ", error.number())?;
+            show_fault(error, report.bytes, header, f)
+        }
+    }
+}
+
+fn show_fault<W: fmt::Write>(
+    error: ParseError,
+    bytes: usize,
+    header: &GlyfHeader,
+    f: &mut fmt::Formatter<W>,
+) -> fmt::Result {
     match error {
         ParseError::BadValue => {
             writeln!(
                 f,
-                "refused         {number}: the boxes have {bbox_size} bytes, and their bitmap alone needs {bitmap}"
+                "the boxes have {} bytes, and their bitmap alone needs {}",
+                header.bbox_size,
+                header.bitmap_size()
             )
         }
         _ => {
-            let [.., boxes, last] = header.spans();
-            let behind_bitmap = boxes.place.saturating_add(bitmap as u64);
-            let end = last
-                .place
-                .saturating_add(u64::from(last.size))
-                .max(behind_bitmap);
             writeln!(
                 f,
-                "refused         {number}: the streams end at {end}, and the table has only {bytes} bytes: it was cut short, or a size in its header is wrong"
+                "the streams end at {}, and the table has only {bytes} bytes: it was cut short, or a size in its header is wrong",
+                streams_end(header)
             )
         }
     }
+}
+
+// Behind the last stream, or behind the bitmap where the boxes are shorter than that.
+fn streams_end(header: &GlyfHeader) -> u64 {
+    let [.., boxes, last] = header.spans();
+    let behind_bitmap = boxes.place.saturating_add(header.bitmap_size() as u64);
+    last.place
+        .saturating_add(u64::from(last.size))
+        .max(behind_bitmap)
 }
