@@ -1,7 +1,7 @@
 //! Reports on a transformed glyf table, and lists its glyphs.
 #![tactic(auto)]
 
-use anyhow::anyhow;
+use anyhow::{Context, anyhow, bail};
 use forme::Forme;
 use listing::{Face, RefusalText};
 use report::Report;
@@ -27,40 +27,35 @@ fn room_for(header: &GlyfHeader, table_len: usize) -> Room {
 
 fn list_glyphs(rt: &HostRuntime, header: &GlyfHeader, table: &[u8]) -> anyhow::Result<()> {
     let mut forme = Forme::new();
-    let Ok(mut lists) = room_for(header, table.len()).lists(rt.alloc()) else {
-        return Err(anyhow!("there is no memory for the glyphs"));
-    };
-    match forme.unpack(table, &mut lists) {
-        Ok(()) => {
-            let face = Face {
-                forme: &forme,
-                lists: &lists,
-            };
-            print!(rt; "{face}")?;
-            Ok(())
-        }
-        Err(refusal) => {
-            let refusal = RefusalText(refusal);
-            println!(rt; "{refusal}")?;
-            Err(anyhow!("the table is refused"))
-        }
+    let mut lists = room_for(header, table.len())
+        .lists(rt.alloc())
+        .map_err(|_| anyhow!("there is no memory for the glyphs"))?;
+    if let Err(refusal) = forme.unpack(table, &mut lists) {
+        println!(rt; "{}", RefusalText(refusal))?;
+        bail!("the table is refused");
     }
+    let face = Face {
+        forme: &forme,
+        lists: &lists,
+    };
+    print!(rt; "{face}")?;
+    Ok(())
 }
 
 fn run(rt: &HostRuntime) -> anyhow::Result<()> {
-    let mut args = env::args(rt)?.skip(1);
-    let Some(path) = args.next() else {
-        return Err(anyhow!("usage: list_face FILE"));
-    };
+    let path = env::args(rt)?.nth(1).context("usage: list_face FILE")?;
     let table = fs::read(rt, path.as_str())?;
-    let Ok(report) = Report::new(table.as_slice()) else {
-        return Err(anyhow!("refused 7: the table has more than 4294967295 bytes"));
-    };
+    let report = Report::new(table.as_slice()).map_err(|error| {
+        anyhow!(
+            "refused {}: the table has more than 4294967295 bytes",
+            error.number()
+        )
+    })?;
     print!(rt; "{report}")?;
-    match (report.header, report.streams) {
-        (Ok(header), Ok(())) => list_glyphs(rt, &header, table.as_slice()),
-        _ => Err(anyhow!("the table is refused")),
-    }
+    let (Ok(header), Ok(())) = (report.header, report.streams) else {
+        bail!("the table is refused");
+    };
+    list_glyphs(rt, &header, table.as_slice())
 }
 
 fn main(rt: HostRuntime) -> anyhow::Result<()> {

@@ -1,24 +1,21 @@
 //! Reports on a transformed glyf table.
 #![tactic(auto)]
 
-use anyhow::anyhow;
+use anyhow::{Context, anyhow};
 use report::Report;
 use std::{env, fs};
 
 fn run(rt: &HostRuntime) -> anyhow::Result<()> {
-    let mut args = env::args(rt)?.skip(1);
-    let Some(path) = args.next() else {
-        return Err(anyhow!("usage: unwoff2 FILE"));
-    };
-    let data = fs::read(rt, path.as_str())?;
-    let Ok(report) = Report::new(data.as_slice()) else {
-        return Err(anyhow!("refused 7: the table has more than 4294967295 bytes"));
-    };
+    let path = env::args(rt)?.nth(1).context("usage: unwoff2 FILE")?;
+    let table = fs::read(rt, path.as_str())?;
+    let report = Report::new(table.as_slice()).map_err(|error| {
+        anyhow!(
+            "refused {}: the table has more than 4294967295 bytes",
+            error.number()
+        )
+    })?;
     print!(rt; "{report}")?;
-    match report.streams {
-        Ok(()) => Ok(()),
-        Err(_) => Err(anyhow!("the table is refused")),
-    }
+    report.streams.map_err(|_| anyhow!("the table is refused"))
 }
 
 fn main(rt: HostRuntime) -> anyhow::Result<()> {
