@@ -1,12 +1,11 @@
 -- Sums over the glyphs of a face.
-use Rattle.std.specs.Prelude.{◌≡◌, ℕ, ◌+◌, ◌*◌, ◌≤◌, Bool, true, false, List, length, sum_by, count_by}
+use Rattle.std.specs.Prelude.{◌≡◌, ◌+◌, Bool, true, false, List, length, sum_by, count_by}
 use Rattle.std.specs.List.{flat_map}
 use Rattle.glyph.specs.Glyphs.{components_of, ends_of, Glyph, instructions_of, points_of}
 use Rattle.glyph.specs.Records.{records_of, start}
 use Rattle.glyph.specs.declared.lists.GlyphKind.{GlyphKind}
 use Rattle.glyph.specs.declared.lists.GlyphKind.TheVariants.{Composite, Empty, Simple}
 use Rattle.glyph.specs.declared.lists.GlyphRecord.{GlyphRecord}
-use Rattle.listing.specs.declared.summary.Kinds.{Kinds}
 use Rattle.listing.specs.declared.summary.Summary.{Summary}
 
 abbrev pub is_empty : GlyphKind → Bool
@@ -43,29 +42,3 @@ pub record Summed (rs : List GlyphRecord) (s : Summary) : Type 0 where
   pub components : s.components ≡ sum_by (λ r. r.components.len) rs
   pub instructions : s.instructions ≡ sum_by (λ r. r.instructions.len) rs
   pub least : (gs : List Glyph) → rs ≡ records_of start gs → Least gs s
-
--- The steps of the sums, for the private functions.
-abbrev pub counted : Kinds → GlyphKind → Kinds
-counted k Empty = record { empty = k.empty + 1; simple = k.simple; composite = k.composite }
-counted k Simple = record { empty = k.empty; simple = k.simple + 1; composite = k.composite }
-counted k Composite = record { empty = k.empty; simple = k.simple; composite = k.composite + 1 }
-
-abbrev pub added : Summary → GlyphRecord → Summary
-added s r =
-    record {
-      kinds = counted s.kinds r.kind;
-      ends = s.ends + r.ends.len;
-      points = s.points + r.points.len;
-      components = s.components + r.components.len;
-      instructions = s.instructions + r.instructions.len;
-    }
-
--- Bounds after `i` glyphs: a glyph counts once, and the length of a part has 32 bits.
-pub record Within (i : ℕ) (s : Summary) : Type 0 where
-  pub empty : s.kinds.empty ≤ i
-  pub simple : s.kinds.simple ≤ i
-  pub composite : s.kinds.composite ≤ i
-  pub ends : s.ends ≤ 4294967295 * i
-  pub points : s.points ≤ 4294967295 * i
-  pub components : s.components ≤ 4294967295 * i
-  pub instructions : s.instructions ≤ 4294967295 * i

@@ -9,11 +9,9 @@ pub struct RefusalText(pub Refusal);
 
 impl fmt::Display for RefusalText {
     fn fmt<W: fmt::Write>(&self, f: &mut fmt::Formatter<W>) -> fmt::Result {
-        let number = self.0.cause.number();
-        let words = words(self.0.cause);
-        write!(f, "refused         {number} ")?;
+        write!(f, "refused         {} ", self.0.cause.number())?;
         show_place(self.0, f)?;
-        write!(f, ": {words}")
+        write!(f, ": {}", words(self.0.cause))
     }
 }
 

@@ -1,9 +1,9 @@
 //! Sums over the glyphs of a face.
-ghost use Rattle.std.specs.Prelude.{◌≡◌, ℕ, ◌+◌, ◌^◌, ◌<◌, ◌≤◌, take};
-ghost use Rattle.listing.specs.Summaries.{added, counted, Summed, Within};
+ghost use Rattle.std.specs.Prelude.{◌≡◌, take, count_by};
+ghost use Rattle.listing.specs.Summaries.{is_composite, is_empty, is_simple, Summed};
 
 use forme::Forme;
-use glyph::{GlyphKind, GlyphRecord, Lists, Part};
+use glyph::{GlyphKind, GlyphRecord, Lists};
 
 /// How many glyphs there are of each kind.
 #[derive(Clone, Copy)]
@@ -29,79 +29,40 @@ impl Summary {
     pub fn new(forme: &Forme, lists: &Lists) -> Summary
         ensures { Summed (take forme.now.glyphs lists.now.records.items) result }
     {
-        sum(first(lists.records.as_slice(), forme.num_glyphs()))
-    }
-}
-
-// So many of the first records, or all where there are fewer.
-fn first(records: &[GlyphRecord], count: usize) -> &[GlyphRecord]
-    ensures { result.now ≡ take count records.now }
-{
-    if count < records.len() {
-        &records[0..count]
-    } else {
-        records
+        let records = lists.records.as_slice();
+        sum(&records[..records.len().min(forme.num_glyphs())])
     }
 }
 
 fn sum(records: &[GlyphRecord]) -> Summary
     ensures { Summed records.now result }
 {
-    let mut summary = Summary {
-        kinds: Kinds {
-            empty: 0,
-            simple: 0,
-            composite: 0,
-        },
-        ends: 0,
-        points: 0,
-        components: 0,
-        instructions: 0,
-    };
-    for record in records {
-        summary = with_one_more(summary, *record);
-    }
-    summary
-}
-
-fn with_one_more(summary: Summary, record: GlyphRecord) -> Summary
-    requires { Within 18446744073709551614 summary }
-    ensures value { result ≡ added summary «record» }
-    ensures within { (i : ℕ) → Within i summary → Within (i + 1) result }
-{
     Summary {
-        kinds: count(summary.kinds, record.kind),
-        ends: plus(summary.ends, record.ends),
-        points: plus(summary.points, record.points),
-        components: plus(summary.components, record.components),
-        instructions: plus(summary.instructions, record.instructions),
+        kinds: count(records),
+        ends: records.iter().map(|r| u128::from(r.ends.len)).sum(),
+        points: records.iter().map(|r| u128::from(r.points.len)).sum(),
+        components: records.iter().map(|r| u128::from(r.components.len)).sum(),
+        instructions: records.iter().map(|r| u128::from(r.instructions.len)).sum(),
     }
 }
 
-fn plus(places: u128, part: Part) -> u128
-    requires { places < 2 ^ 96 }
-    ensures value { result ≡ places + part.len }
-    ensures bound { part.len ≤ 4294967295 }
+fn count(records: &[GlyphRecord]) -> Kinds
+    ensures empty { result.empty ≡ count_by (λ r. is_empty r.kind) records.now }
+    ensures simple { result.simple ≡ count_by (λ r. is_simple r.kind) records.now }
+    ensures composite { result.composite ≡ count_by (λ r. is_composite r.kind) records.now }
 {
-    places + u128::from(part.len)
-}
-
-fn count(kinds: Kinds, kind: GlyphKind) -> Kinds
-    requires { (kinds.empty < 18446744073709551615) × ((kinds.simple < 18446744073709551615) × (kinds.composite < 18446744073709551615)) }
-    ensures { result ≡ counted kinds kind }
-{
-    match kind {
-        GlyphKind::Empty => Kinds {
-            empty: kinds.empty + 1,
-            ..kinds
-        },
-        GlyphKind::Simple => Kinds {
-            simple: kinds.simple + 1,
-            ..kinds
-        },
-        GlyphKind::Composite => Kinds {
-            composite: kinds.composite + 1,
-            ..kinds
-        },
+    Kinds {
+        empty: records
+            .iter()
+            .filter(|r| matches!(r.kind, GlyphKind::Empty))
+            .count() as u64,
+        simple: records
+            .iter()
+            .filter(|r| matches!(r.kind, GlyphKind::Simple))
+            .count() as u64,
+        composite: records
+            .iter()
+            .filter(|r| matches!(r.kind, GlyphKind::Composite))
+            .count() as u64,
     }
 }
