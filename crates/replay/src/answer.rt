@@ -1,5 +1,4 @@
 //! The answers to commands.
-use crate::mistake::Mistake;
 use forme::{Forme, GlyphView};
 use glyph::{Lists, Refusal};
 use glyph_text::{GlyphText, Hex, Listed};
@@ -13,7 +12,6 @@ pub enum Answer<'a> {
     Glyph(Option<GlyphView<'a>>),
     Lists(&'a Lists),
     Refused(Refusal),
-    Mistaken(Mistake),
 }
 
 // Without the end of the last line.
@@ -23,14 +21,12 @@ impl fmt::Display for Answer<'_> {
             Answer::Done => f.write_str("ok"),
             Answer::Counted(count) => write!(f, "ok {count}"),
             Answer::Glyphs(forme, lists) => show_glyphs(forme, lists, f),
-            Answer::Glyph(Some(view)) => {
-                f.write_str("ok 1\n")?;
-                show_glyph(*view, f)
-            }
+            Answer::Glyph(Some(view)) => write!(f, "ok 1\n{}", GlyphText(*view)),
             Answer::Glyph(None) => f.write_str("absent"),
             Answer::Lists(lists) => show_lists(lists, f),
-            Answer::Refused(refusal) => show_refusal(*refusal, f),
-            Answer::Mistaken(mistake) => write!(f, "error {mistake}"),
+            Answer::Refused(refusal) => {
+                write!(f, "refused {} {}", refusal.cause.number(), refusal.glyph)
+            }
         }
     }
 }
@@ -43,36 +39,20 @@ fn show_glyphs<W: fmt::Write>(
     let count = forme.num_glyphs();
     write!(f, "ok {count}")?;
     for i in 0..count {
-        f.write_str("\n")?;
         match forme.glyph(i, lists) {
-            Some(view) => show_glyph(view, f)?,
-            None => f.write_str("absent")?,
+            Some(view) => write!(f, "\n{}", GlyphText(view))?,
+            None => f.write_str("\nabsent")?,
         }
     }
     Ok(())
 }
 
-fn show_glyph<W: fmt::Write>(view: GlyphView<'_>, f: &mut fmt::Formatter<W>) -> fmt::Result {
-    let glyph = GlyphText(view);
-    write!(f, "{glyph}")
-}
-
 fn show_lists<W: fmt::Write>(lists: &Lists, f: &mut fmt::Formatter<W>) -> fmt::Result {
-    let ends = Listed(lists.ends.as_slice());
-    let points = Listed(lists.points.as_slice());
-    let components = Listed(lists.components.as_slice());
-    let instructions = Hex(lists.instructions.as_slice());
-    let full = Listed(lists.full.as_slice());
-    let tail = Listed(lists.tail.as_slice());
-    write!(
-        f,
-        "ok 6\nends {ends}\npoints {points}\ncomponents {components}\n"
-    )?;
-    write!(f, "instructions {instructions}\nfull {full}\ntail {tail}")
-}
-
-fn show_refusal<W: fmt::Write>(refusal: Refusal, f: &mut fmt::Formatter<W>) -> fmt::Result {
-    let number = refusal.cause.number();
-    let glyph = refusal.glyph;
-    write!(f, "refused {number} {glyph}")
+    writeln!(f, "ok 6")?;
+    writeln!(f, "ends {}", Listed(lists.ends.as_slice()))?;
+    writeln!(f, "points {}", Listed(lists.points.as_slice()))?;
+    writeln!(f, "components {}", Listed(lists.components.as_slice()))?;
+    writeln!(f, "instructions {}", Hex(lists.instructions.as_slice()))?;
+    writeln!(f, "full {}", Listed(lists.full.as_slice()))?;
+    write!(f, "tail {}", Listed(lists.tail.as_slice()))
 }

@@ -1,6 +1,6 @@
 //! The commands.
 use crate::mistake::Mistake;
-use glyph_text::{HexError, read_hex};
+use glyph_text::read_hex;
 use room::Room;
 use std::alloc::Global;
 
@@ -19,16 +19,14 @@ pub enum Command {
 
 impl Command {
     pub(crate) fn read(heap: Global, line: &str) -> Result<Command, Mistake> {
-        let Ok(words) = line.split_ascii_whitespace().collect::<Vec<&str>>(heap) else {
-            return Err(Mistake::Memory);
-        };
+        let words = line.split_ascii_whitespace().collect::<Vec<&str>>(heap)?;
         Command::from_words(heap, words.as_slice())
     }
 
     fn from_words(heap: Global, words: &[&str]) -> Result<Command, Mistake> {
         match words {
             ["room", lengths @ ..] => Ok(Command::Room(room(lengths)?)),
-            ["unpack", table] => Ok(Command::Unpack(bytes(heap, table)?)),
+            ["unpack", table] => Ok(Command::Unpack(read_hex(heap, table.as_bytes())?)),
             ["strike"] => Ok(Command::Strike),
             ["glyphs"] => Ok(Command::Glyphs),
             ["glyph", index] => Ok(Command::Glyph(number(index)? as usize)),
@@ -78,13 +76,5 @@ fn number(word: &str) -> Result<u32, Mistake> {
     if word.starts_with('+') {
         return Err(Mistake::Number);
     }
-    word.parse::<u32>().ok().ok_or(Mistake::Number)
-}
-
-fn bytes(heap: Global, word: &str) -> Result<Vec<u8>, Mistake> {
-    match read_hex(heap, word.as_bytes()) {
-        Ok(bytes) => Ok(bytes),
-        Err(HexError::NotHex) => Err(Mistake::Bytes),
-        Err(HexError::NoMemory) => Err(Mistake::Memory),
-    }
+    word.parse::<u32>().map_err(|_| Mistake::Number)
 }

@@ -4,7 +4,6 @@ use crate::command::Command;
 use crate::mistake::Mistake;
 use forme::Forme;
 use glyph::Lists;
-use room::Room;
 use std::alloc::Global;
 
 #[derive(Drop)]
@@ -33,34 +32,22 @@ impl Session {
     }
 
     /// Follows the command in a line. A line with a mistake changes nothing.
-    pub(crate) fn answer<'a>(&'a mut self, line: &str) -> Answer<'a> {
-        match Command::read(self.heap, line) {
-            Ok(command) => self.follow(command),
-            Err(mistake) => Answer::Mistaken(mistake),
-        }
-    }
-
-    fn follow<'a>(&'a mut self, command: Command) -> Answer<'a> {
-        match command {
-            Command::Room(room) => self.room(room),
-            Command::Unpack(table) => self.unpack(table.as_slice()),
+    pub(crate) fn answer<'a>(&'a mut self, line: &str) -> Result<Answer<'a>, Mistake> {
+        match Command::read(self.heap, line)? {
+            Command::Room(room) => {
+                self.lists = room.lists(self.heap)?;
+                self.forme = Forme::new();
+                Ok(Answer::Done)
+            }
+            Command::Unpack(table) => Ok(self.unpack(table.as_slice())),
             Command::Strike => {
                 self.forme.strike();
-                Answer::Done
+                Ok(Answer::Done)
             }
-            Command::Glyphs => self.glyphs(),
-            Command::Glyph(index) => self.glyph(index),
-            Command::Lists => self.lists(),
+            Command::Glyphs => Ok(Answer::Glyphs(&self.forme, &self.lists)),
+            Command::Glyph(index) => Ok(Answer::Glyph(self.forme.glyph(index, &self.lists))),
+            Command::Lists => Ok(Answer::Lists(&self.lists)),
         }
-    }
-
-    fn room<'a>(&'a mut self, room: Room) -> Answer<'a> {
-        let Ok(lists) = room.lists(self.heap) else {
-            return Answer::Mistaken(Mistake::Memory);
-        };
-        self.lists = lists;
-        self.forme = Forme::new();
-        Answer::Done
     }
 
     fn unpack<'a>(&'a mut self, table: &[u8]) -> Answer<'a> {
@@ -68,17 +55,5 @@ impl Session {
             Ok(()) => Answer::Counted(self.forme.num_glyphs()),
             Err(refusal) => Answer::Refused(refusal),
         }
-    }
-
-    fn glyphs(&self) -> Answer<'_> {
-        Answer::Glyphs(&self.forme, &self.lists)
-    }
-
-    fn glyph(&self, index: usize) -> Answer<'_> {
-        Answer::Glyph(self.forme.glyph(index, &self.lists))
-    }
-
-    fn lists(&self) -> Answer<'_> {
-        Answer::Lists(&self.lists)
     }
 }
