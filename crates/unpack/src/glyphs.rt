@@ -10,7 +10,7 @@ use crate::slots::Slots;
 use crate::streams::Streams;
 use crate::taken::Taken;
 use binary::{BoundingBox, I16Be};
-use glyph::{GlyphKind, GlyphRecord, Part, Places, Point, bounding_box};
+use glyph::{GlyphRecord, Part, Places, Point, bounding_box};
 use read::error::ParseError;
 
 /// Reads the next glyph, whose bit in the bitmap of boxes is `boxed`, and lays it from the places `at` on.
@@ -26,14 +26,7 @@ pub(crate) fn read_glyph(
     match streams.contours.read::<I16Be>()? {
         contours @ 1.. => read_simple(streams, boxed, contours.cast_unsigned(), slots, at),
         -1 => read_composite(streams, boxed, slots, at),
-        0 if !boxed => Ok(Taken {
-            kind: GlyphKind::Empty,
-            bbox: None,
-            ends: 0,
-            points: 0,
-            components: 0,
-            instructions: 0,
-        }),
+        0 if !boxed => Ok(Taken::default()),
         _ => Err(ParseError::BadValue),
     }
 }

@@ -52,11 +52,7 @@ pub(crate) fn read_points(
     requires { (at < 2 ^ 32) × (length flags.now ≤ 65535) }
     ensures { MatchResult (points_said flags.now [] origin glyphs.old.rest.now) (λ p. (result ≡ Ok tt) × (glyphs.new.rest.now ≡ p.1) × (points.new ≡ laid at p.0 points.old)) (λ e. result ≡ Err e) }
 {
-    let mut last = Point {
-        x: 0,
-        y: 0,
-        on_curve: true,
-    };
+    let mut last = Point::ORIGIN;
     for (i, flag) in flags.iter().enumerate() {
         let next = read_point(last, *flag, glyphs)?;
         lay(points, at + i, next);

@@ -5,7 +5,7 @@ ghost use Rattle.read.specs.Tests.{either};
 ghost use Rattle.unpack.specs.Composites.{components_said};
 ghost use Rattle.glyph.specs.Laying.{laid};
 
-use composite::{MORE_COMPONENTS, WE_HAVE_INSTRUCTIONS, read_component};
+use composite::{MORE_COMPONENTS, WE_HAVE_INSTRUCTIONS, has, read_component};
 use glyph::{Component, lay};
 use read::ReadCtxt;
 use read::error::ParseError;
@@ -28,7 +28,7 @@ pub(crate) fn read_components(
         lay(components, at + count, component);
         count += 1;
         have_instructions = marked(have_instructions, component.flags);
-        if !has_more(component.flags) {
+        if !has(component.flags, MORE_COMPONENTS) {
             break have_instructions;
         }
     };
@@ -38,11 +38,5 @@ pub(crate) fn read_components(
 fn marked(mark: bool, flags: u16) -> bool
     ensures { result ≡ either mark (has flags 0x0100) }
 {
-    mark || flags & WE_HAVE_INSTRUCTIONS != 0
-}
-
-fn has_more(flags: u16) -> bool
-    ensures { result ≡ has flags 0x0020 }
-{
-    flags & MORE_COMPONENTS != 0
+    mark || has(flags, WE_HAVE_INSTRUCTIONS)
 }

@@ -25,12 +25,7 @@ pub(crate) fn read_glyphs(sound: &SoundTable<'_>, slots: &mut Slots<'_>) -> Resu
 {
     let mut streams = Streams::new(sound);
     let bitmap = BitSlice::new(sound.table.bbox_bitmap.data());
-    let mut at = Places {
-        ends: 0,
-        points: 0,
-        components: 0,
-        instructions: 0,
-    };
+    let mut at = Places::default();
     for i in 0..sound.table.header.num_glyphs {
         let boxed = bitmap.get(usize::from(i)).unwrap_or(false);
         at = read_next(&mut streams, boxed, i, slots, at)?;

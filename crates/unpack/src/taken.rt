@@ -3,7 +3,7 @@ use binary::BoundingBox;
 use glyph::GlyphKind;
 
 /// A glyph's kind, its own box if it has one, and how many places it takes of each list.
-#[derive(Clone, Copy)]
+#[derive(Clone, Copy, Default)]
 pub(crate) struct Taken {
     pub(crate) kind: GlyphKind,
     pub(crate) bbox: Option<BoundingBox>,

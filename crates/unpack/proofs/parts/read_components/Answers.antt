@@ -48,7 +48,7 @@ loop-component-preserved c =
       omega (arith, inv.2, got.1),
       put,
       inv.4
-          ∙ (more (suc (length c.args.ctxt.now.rest.now)) c.loop-component.count cs c.loop-component.have_instructions bs low part rest got.0 (sym c.if-not-has_more.ensures)
+          ∙ (more (suc (length c.args.ctxt.now.rest.now)) c.loop-component.count cs c.loop-component.have_instructions bs low part rest got.0 (sym c.if-not-has.ensures)
           ∙ ap (λ m. components_said (suc (length c.args.ctxt.now.rest.now) - (c.loop-component.count + 1)) (cs ++ part ∷ []) m rest) (sym c.marked-have_instructions.ensures)),
     )
 
@@ -68,7 +68,7 @@ returns-clause-read c =
     in
     let e =
     inv.4
-    ∙ last (suc (length c.args.ctxt.now.rest.now)) c.loop-component.count cs c.loop-component.have_instructions bs low part rest got.0 (sym c.if-not-has_more.ensures)
+    ∙ last (suc (length c.args.ctxt.now.rest.now)) c.loop-component.count cs c.loop-component.have_instructions bs low part rest got.0 (sym c.if-not-has.ensures)
     in
     let n : c.loop-component.count + 1 ≡ length (cs ++ part ∷ []) = sym (length_push cs part ∙ omega (arith, inv.1)) in
     when_accepted _ _ _ _ e (ap (λ k. Ok (k, c.marked-have_instructions.result)) n ∙ ap (λ m. Ok (length (cs ++ part ∷ []), m)) c.marked-have_instructions.ensures, refl, put, omega (arith, inv.1, inv.2, got.1, n))

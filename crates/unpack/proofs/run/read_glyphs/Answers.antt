@@ -1,4 +1,4 @@
-use Rattle.std.proofs.Common.{ℕ, ◌<◌, ◌≤◌, false, List, [], length, Ok, Err, unwrap_or, sym, refl, ap, ◌∙◌, arith}
+use Rattle.std.proofs.Common.{ℕ, ◌<◌, ◌≤◌, false, List, [], length, Ok, Err, unwrap_or, sym, refl, ap, ◌∙◌, arith, rules}
 use Rattle.std.proofs.lemmas.List.{drop_all, length-take}
 use Rattle.std.proofs.lemmas.Result.{err_from_is_err_and}
 use Rattle.std.specs.List.{slice_get}
@@ -14,17 +14,18 @@ use Rattle.unpack.proofs.run.read_glyphs.Goals as goal
 
 pub loop-i-init : goal.loop-i-init
 loop-i-init c =
-    let e = c.new-streams.ensures in (
+    let e = c.new-streams.ensures in
+    let d = c.default-at.ensures in (
       record { records = refl; ends = refl; points = refl; components = refl; instructions = refl },
       record {
         gs = [];
         count = refl;
-        places = refl;
+        places = search rules;
         run = record { ends_laid = refl; points_laid = refl; components_laid = refl; hints_laid = refl; records_laid = (λ _. refl) };
-        few_ends = omega arith;
-        few_points = omega arith;
-        few_hints = omega arith;
-        few_parts = omega (arith, ap (λ s. length s.composites) e);
+        few_ends = omega (arith, d.0);
+        few_points = omega (arith, d.1.0);
+        few_hints = omega (arith, d.1.1.1);
+        few_parts = omega (arith, d.1.1.0, ap (λ s. length s.composites) e);
         same = ap (glyphs_said (table_bits c.args.sound.now.table) []) (sym e);
       },
     )
