@@ -6,24 +6,16 @@ ghost use Rattle.std.specs.List.{list_all, list_any};
 ghost use Rattle.std.specs.Prelude.{◌≡◌, true};
 
 use composite::{
-    ARG_1_AND_2_ARE_WORDS, ARGS_ARE_XY_VALUES, MORE_COMPONENTS, WE_HAVE_A_SCALE,
-    WE_HAVE_A_TWO_BY_TWO, WE_HAVE_AN_X_AND_Y_SCALE, WE_HAVE_INSTRUCTIONS,
+    ARG_1_AND_2_ARE_WORDS, ARGS_ARE_XY_VALUES, KEPT_FLAGS, MORE_COMPONENTS, WE_HAVE_A_SCALE,
+    WE_HAVE_A_TWO_BY_TWO, WE_HAVE_AN_X_AND_Y_SCALE, WE_HAVE_INSTRUCTIONS, has,
 };
 use glyph::{Component, CompositeGlyphArgument, CompositeGlyphScale};
-
-const KEPT_FLAGS: u16 = 0x1fef;
-
-fn is_set(flags: u16, mask: u16) -> bool
-    ensures { result ≡ has flags mask }
-{
-    flags & mask != 0
-}
 
 fn argument_fits(flags: u16, argument: CompositeGlyphArgument) -> bool
     ensures { result ≡ argument_fits flags argument }
 {
-    let words = is_set(flags, ARG_1_AND_2_ARE_WORDS);
-    let signed = is_set(flags, ARGS_ARE_XY_VALUES);
+    let words = has(flags, ARG_1_AND_2_ARE_WORDS);
+    let signed = has(flags, ARGS_ARE_XY_VALUES);
     match argument {
         CompositeGlyphArgument::U8(_) => !words && !signed,
         CompositeGlyphArgument::I8(_) => !words && signed,
@@ -35,9 +27,9 @@ fn argument_fits(flags: u16, argument: CompositeGlyphArgument) -> bool
 fn scale_fits(flags: u16, scale: CompositeGlyphScale) -> bool
     ensures { result ≡ scale_fits flags scale }
 {
-    let one = is_set(flags, WE_HAVE_A_SCALE);
-    let two = is_set(flags, WE_HAVE_AN_X_AND_Y_SCALE);
-    let four = is_set(flags, WE_HAVE_A_TWO_BY_TWO);
+    let one = has(flags, WE_HAVE_A_SCALE);
+    let two = has(flags, WE_HAVE_AN_X_AND_Y_SCALE);
+    let four = has(flags, WE_HAVE_A_TWO_BY_TWO);
     match scale {
         CompositeGlyphScale::None => !one && !two && !four,
         CompositeGlyphScale::Scale(_) => one,
@@ -64,7 +56,7 @@ fn chained(components: &[Component]) -> bool
         if !more {
             return false;
         }
-        more = is_set(component.flags, MORE_COMPONENTS);
+        more = has(component.flags, MORE_COMPONENTS);
     }
     !more
 }
@@ -74,7 +66,7 @@ fn marked(components: &[Component]) -> bool
 {
     components
         .iter()
-        .any(|component| is_set(component.flags, WE_HAVE_INSTRUCTIONS))
+        .any(|component| has(component.flags, WE_HAVE_INSTRUCTIONS))
 }
 
 fn each_sound(components: &[Component]) -> bool

@@ -23,7 +23,7 @@ loop-component-preserved c =
     let more = c.loop-component.more in
     let i = c.loop-component.component-index in
     goes_on (chained_on more) (λ _. more) behind (λ _ _. refl) c.args.components.now i nothing c.loop-component-test.true _ c.loop-component.invariant (sym c.if-not-more.false)
-    ∙ ap (λ (b : Bool). chained_on b (drop (i + 1) c.args.components.now)) (sym c.is_set-more.ensures)
+    ∙ ap (λ (b : Bool). chained_on b (drop (i + 1) c.args.components.now)) (sym c.has-more.ensures)
 
 pub returns : goal.returns
 returns c =
