@@ -23,10 +23,7 @@ fn show(rt: &impl Print, name: &str, table: &[u8]) -> io::Result<()> {
     println!(rt; "# {name}")?;
     match Report::new(table) {
         Ok(report) => print!(rt; "{report}"),
-        Err(error) => {
-            let number = error.number();
-            println!(rt; "refused         {number}")
-        }
+        Err(error) => println!(rt; "refused         {}", error.number()),
     }
 }
 
@@ -37,10 +34,7 @@ fn main(rt: HostRuntime) -> io::Result<()> {
         if let Ok(report) = Report::new(&TABLE[0..len]) {
             match report.streams {
                 Ok(()) => println!(rt; "accepted")?,
-                Err(error) => {
-                    let number = error.number();
-                    println!(rt; "refused {number}")?;
-                }
+                Err(error) => println!(rt; "refused {}", error.number())?,
             }
         }
     }
