@@ -8,6 +8,7 @@ use std::fmt;
 pub enum Answer<'a> {
     Done,
     Counted(usize),
+    /// All glyphs of a forme in its lists. `show_glyphs` alone takes the two apart, so a struct of them would be no plainer.
     Glyphs(&'a Forme, &'a Lists),
     Glyph(Option<GlyphView<'a>>),
     Lists(&'a Lists),
