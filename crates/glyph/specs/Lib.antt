@@ -1,3 +1,4 @@
+pub mod Arguments
 pub mod Bounds
 pub mod Causes
 pub mod Glyphs

@@ -1,4 +1,7 @@
 //! A component of a composite glyph.
+ghost use Rattle.glyph.specs.Arguments.{number_of_argument};
+ghost use Rattle.std.specs.Prelude.{◌≡◌};
+
 use binary::F2Dot14;
 
 /// An argument of a component: a signed shift, or the number of a point, in one byte or two.
@@ -8,6 +11,19 @@ pub enum CompositeGlyphArgument {
     I8(i8),
     U16(u16),
     I16(i16),
+}
+
+impl From<CompositeGlyphArgument> for i32 {
+    ghost from_gives = { λ a n. n ≡ number_of_argument a };
+
+    fn from(argument: CompositeGlyphArgument) -> i32 {
+        match argument {
+            CompositeGlyphArgument::U8(number) => i32::from(number),
+            CompositeGlyphArgument::I8(shift) => i32::from(shift),
+            CompositeGlyphArgument::U16(number) => i32::from(number),
+            CompositeGlyphArgument::I16(shift) => i32::from(shift),
+        }
+    }
 }
 
 /// How a component is scaled.

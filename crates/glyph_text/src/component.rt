@@ -1,6 +1,6 @@
 //! A component as text.
 use crate::listed::Entry;
-use glyph::{Component, CompositeGlyphArgument, CompositeGlyphScale};
+use glyph::{Component, CompositeGlyphScale};
 use std::fmt;
 
 impl Entry for Component {
@@ -10,19 +10,10 @@ impl Entry for Component {
             "{:04x}:{}:{},{}:",
             self.flags,
             self.glyph_index,
-            value(self.argument1),
-            value(self.argument2)
+            i32::from(self.argument1),
+            i32::from(self.argument2)
         )?;
         show_scale(self.scale, f)
-    }
-}
-
-fn value(argument: CompositeGlyphArgument) -> i32 {
-    match argument {
-        CompositeGlyphArgument::U8(number) => i32::from(number),
-        CompositeGlyphArgument::I8(shift) => i32::from(shift),
-        CompositeGlyphArgument::U16(number) => i32::from(number),
-        CompositeGlyphArgument::I16(shift) => i32::from(shift),
     }
 }
 
