@@ -1,5 +1,5 @@
 -- A component read field by field takes the bytes that it has as a whole.
-use Rattle.std.proofs.Common.{◌≡◌, ℕ, ◌+◌, ◌<◌, ◌≤◌, List, length, take, drop, Ok, Err, Result, ap, ◌∙◌, arith, le-leb}
+use Rattle.std.proofs.Common.{◌≡◌, ℕ, ◌+◌, ◌<◌, ◌≤◌, Bool, true, false, leb, leb-false, List, length, take, drop, Ok, Err, MatchBool, Result, refl, ap, ◌∙◌, arith, le-leb}
 use borrow.Author.Tests.{lt-leb}
 use lib.Bits.{bit_and}
 use Rattle.std.proofs.lemmas.List.{drop-drop, length-drop}
@@ -7,7 +7,7 @@ use Rattle.binary.specs.Bytes.{u16_said}
 use Rattle.glyph.specs.declared.component.Component.{Component}
 use Rattle.glyph.specs.declared.component.CompositeGlyphArgument.{CompositeGlyphArgument}
 use Rattle.glyph.specs.declared.component.CompositeGlyphScale.{CompositeGlyphScale}
-use Rattle.read.proofs.Taking.{missed, took}
+use Rattle.read.proofs.Taking.{taken_when, took}
 use Rattle.read.specs.Reading.{Takes}
 use Rattle.read.specs.declared.error.ParseError.{ParseError}
 use Rattle.read.specs.declared.error.ParseError.TheVariants.{BadEof}
@@ -22,8 +22,19 @@ U16 v bs = v ≡ u16_said bs
 abbrev Argument : ℕ → CompositeGlyphArgument → List ℕ → Type 0
 Argument f a bs = a ≡ argument_said f bs
 
-abbrev Scaled : ℕ → CompositeGlyphScale → List ℕ → Type 0
-Scaled f s bs = s ≡ scale_said f bs
+abbrev Scaled : ℕ → List ℕ → CompositeGlyphScale → Type 0
+Scaled f before s = s ≡ scale_said f (take (scale_size f) before)
+
+module _ {A E : Type 0} (n : ℕ) (Says : A → Type 0) (fault : E) (before after : List ℕ) where
+  read_whole : (x : A) → Reads n Says fault before (Ok x) after → (n ≤ length before) × Says x × (after ≡ drop n before)
+  read_whole x t = taken_when n before after t (λ (e : ◌≡◌ {A = Result A E} (Ok x) (Err fault)). cc)
+
+  read_short : (d : E) → Reads n Says fault before (Err d) after → (length before < n) × (d ≡ fault)
+  read_short d t = by (leb n (length before)) refl t
+    where
+      by : (b : Bool) → leb n (length before) ≡ b → MatchBool b (⊥ × (after ≡ drop n before)) (◌≡◌ {A = Result A E} (Err d) (Err fault)) → (length before < n) × (d ≡ fault)
+      by true e p = absurd p.0
+      by false e p = (leb-false n (length before) e, cc)
 
 module _
     (b0 b1 b2 b3 b4 b5 : List ℕ)
@@ -73,17 +84,17 @@ module _
     sized : component_size f ≡ component_size (flags_said b0)
     sized = ap component_size kept
 
-    pub no_scale : (d : ParseError) (r : Result Component ParseError) → r ≡ Err d → Takes (scale_size f) (Scaled f) BadEof b4 (Err d) b5 → Reads (component_size (flags_said b0)) (λ c. c ≡ component_said b0) BadEof b0 r b5
+    pub no_scale : (d : ParseError) (r : Result Component ParseError) → r ≡ Err d → Reads (scale_size f) (Scaled f b4) BadEof b4 (Err d) b5 → Reads (component_size (flags_said b0)) (λ c. c ≡ component_said b0) BadEof b0 r b5
     no_scale d r e t =
-        let m = missed (scale_size f) (Scaled f) BadEof b4 b5 d t in
+        let m = read_short (scale_size f) (Scaled f b4) BadEof b4 b5 d t in
         let l = left in
         let z = sized in
         let short : length b0 < component_size (flags_said b0) = omega (arith, m.0) in
         rw (lt-leb (component_size (flags_said b0)) (length b0) short) (e ∙ ap (λ (x : ParseError). Err x) m.1)
 
-    pub whole : (s : CompositeGlyphScale) → Takes (scale_size f) (Scaled f) BadEof b4 (Ok s) b5 → Reads (component_size (flags_said b0)) (λ c. c ≡ component_said b0) BadEof b0 (Ok (component f i a b s)) b5
+    pub whole : (s : CompositeGlyphScale) → Reads (scale_size f) (Scaled f b4) BadEof b4 (Ok s) b5 → Reads (component_size (flags_said b0)) (λ c. c ≡ component_said b0) BadEof b0 (Ok (component f i a b s)) b5
     whole s t =
-        let got = took (scale_size f) (Scaled f) BadEof b4 b5 s t in
+        let got = read_whole (scale_size f) (Scaled f b4) BadEof b4 b5 s t in
         let l = left in
         let z = sized in
         let ei : i ≡ u16_said (take 2 (drop 2 b0)) =

@@ -1,8 +1,8 @@
 //! Components of composite glyphs, as both forms of the glyf table hold them.
 #![tactic(auto)]
 
-ghost use Rattle.std.specs.Prelude.{◌≡◌, ◌+◌, ◌≤◌, length, negsuc};
-ghost use Rattle.composite.specs.Components.{argument_said, argument_size, ByteFc, component_said, component_size, f2dot14_at, flags_said, has, Reads, scale_said, scale_size};
+ghost use Rattle.std.specs.Prelude.{◌≡◌, negsuc, take};
+ghost use Rattle.composite.specs.Components.{argument_said, argument_size, ByteFc, component_said, component_size, flags_said, has, Reads, scale_said, scale_size};
 ghost use Rattle.glyph.specs.declared.component.CompositeGlyphArgument.TheVariants.{I8 as I8Argument};
 ghost use Rattle.read.specs.Reading.{Takes};
 ghost use Rattle.read.specs.declared.error.ParseError.TheVariants.{BadEof};
@@ -52,32 +52,22 @@ fn read_argument(ctxt: &mut ReadCtxt<'_>, flags: u16) -> Result<CompositeGlyphAr
     }
 }
 
-fn f2dot14_at(bytes: &[u8], at: usize) -> F2Dot14
-    requires { at + 2 ≤ length bytes.now }
-    ensures { result ≡ f2dot14_at bytes.now at }
-{
-    F2Dot14(i16::from_be_bytes([bytes[at], bytes[at + 1]]))
-}
-
 fn read_scale(ctxt: &mut ReadCtxt<'_>, flags: u16) -> Result<CompositeGlyphScale, ParseError>
-    ensures { Takes (scale_size flags) (λ s bs. s ≡ scale_said flags bs) BadEof ctxt.old.rest.now result ctxt.new.rest.now }
+    ensures { Reads (scale_size flags) (λ s. s ≡ scale_said flags (take (scale_size flags) ctxt.old.rest.now)) BadEof ctxt.old.rest.now result ctxt.new.rest.now }
 {
     if has(flags, WE_HAVE_A_SCALE) {
-        let bytes = ctxt.read_slice(2)?;
-        Ok(CompositeGlyphScale::Scale(f2dot14_at(bytes, 0)))
+        Ok(CompositeGlyphScale::Scale(ctxt.read::<F2Dot14>()?))
     } else if has(flags, WE_HAVE_AN_X_AND_Y_SCALE) {
-        let bytes = ctxt.read_slice(4)?;
         Ok(CompositeGlyphScale::XY {
-            x_scale: f2dot14_at(bytes, 0),
-            y_scale: f2dot14_at(bytes, 2),
+            x_scale: ctxt.read::<F2Dot14>()?,
+            y_scale: ctxt.read::<F2Dot14>()?,
         })
     } else if has(flags, WE_HAVE_A_TWO_BY_TWO) {
-        let bytes = ctxt.read_slice(8)?;
         Ok(CompositeGlyphScale::Matrix {
-            xx: f2dot14_at(bytes, 0),
-            xy: f2dot14_at(bytes, 2),
-            yx: f2dot14_at(bytes, 4),
-            yy: f2dot14_at(bytes, 6),
+            xx: ctxt.read::<F2Dot14>()?,
+            xy: ctxt.read::<F2Dot14>()?,
+            yx: ctxt.read::<F2Dot14>()?,
+            yy: ctxt.read::<F2Dot14>()?,
         })
     } else {
         Ok(CompositeGlyphScale::None)
