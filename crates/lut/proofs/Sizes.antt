@@ -1,5 +1,5 @@
 -- A row and its bytes hold the sizes that the rule of the row's group gives.
-use Rattle.std.proofs.Common.{◌≡◌, ℕ, ◌+◌, ◌*◌, ◌/◌, ◌%◌, ◌^◌, ◌<◌, List, length, get_or, ap, ◌∙◌, arith}
+use Rattle.std.proofs.Common.{◌≡◌, ℕ, ◌+◌, ◌*◌, ◌/◌, ◌%◌, ◌^◌, ◌<◌, ◌≤◌, List, [], ◌∷◌, length, fold, get_or, ap, ◌∙◌, arith}
 use Rattle.lut.specs.Rows.{number, row_by, x_delta, y_delta}
 use Rattle.lut.specs.declared.table.XYTriplet.{XYTriplet}
 use Rattle.lut.specs.Triplets.{bytes_in, Group, half_bytes, pair_by, sixteen_bits, steps_by, twelve_bits, whole_bytes, x_alone, x_size, y_alone, y_size}
@@ -13,6 +13,26 @@ y_shifted t n delta = n % (1 * 2 ^ t.y_bits % 4294967296) + delta
 
 abbrev Bytes : List ℕ → Type 0
 Bytes bs = (i : ℕ) → get_or bs i 0 < 256
+
+-- The bytes of a row, taken in one after the other.
+abbrev pub taken_in : List ℕ → ℕ
+taken_in bs = fold (λ (number : ℕ) (byte : ℕ). number * 256 % 4294967296 + byte) 0 bs
+
+few : (g : Group) → (1 ≤ bytes_in g) × (bytes_in g ≤ 4)
+few y_alone = (omega arith, omega arith)
+few x_alone = (omega arith, omega arith)
+few half_bytes = (omega arith, omega arith)
+few whole_bytes = (omega arith, omega arith)
+few twelve_bits = (omega arith, omega arith)
+few sixteen_bits = (omega arith, omega arith)
+
+as_number : (bs : List ℕ) → 1 ≤ length bs → length bs ≤ 4 → Bytes bs → taken_in bs ≡ number bs
+as_number [] h k ok = absurd (omega arith)
+as_number (a ∷ []) h k ok = let e = ok 0 in omega arith
+as_number (a ∷ (b ∷ [])) h k ok = let e = ok 0 in let f = ok 1 in omega arith
+as_number (a ∷ (b ∷ (c ∷ []))) h k ok = let e = ok 0 in let f = ok 1 in let g = ok 2 in omega arith
+as_number (a ∷ (b ∷ (c ∷ (d ∷ [])))) h k ok = let e = ok 0 in let f = ok 1 in let g = ok 2 in let i = ok 3 in omega arith
+as_number (a ∷ (b ∷ (c ∷ (d ∷ (e ∷ bs))))) h k ok = absurd (omega arith)
 
 pub x_held : (g : Group) (r : ℕ) (bs : List ℕ) → length bs ≡ bytes_in g → Bytes bs → x_shifted (row_by g r) (number bs) (x_delta g r) ≡ x_size g r bs
 x_held y_alone r bs e ok = let a = ok 0 in rw e (omega arith)
@@ -30,8 +50,9 @@ y_held whole_bytes r bs e ok = let a = ok 0 in let b = ok 1 in rw e (omega arith
 y_held twelve_bits r bs e ok = let a = ok 0 in let b = ok 1 in let c = ok 2 in rw e (omega arith)
 y_held sixteen_bits r bs e ok = let a = ok 0 in let b = ok 1 in let c = ok 2 in let d = ok 3 in rw e (omega arith)
 
-pub said : (g : Group) (r : ℕ) (bs : List ℕ) (t : XYTriplet) (n dx dy : ℕ) → t ≡ row_by g r → n ≡ number bs → dx ≡ t.delta_x → dy ≡ t.delta_y → length bs ≡ bytes_in g → Bytes bs → pair_by t.x_is_negative (x_shifted t n dx) t.y_is_negative (y_shifted t n dy) ≡ steps_by g r bs
-said g r bs t n dx dy same num ex ey long ok =
+pub said : (g : Group) (r : ℕ) (bs : List ℕ) (t : XYTriplet) (n dx dy : ℕ) → t ≡ row_by g r → n ≡ taken_in bs → dx ≡ t.delta_x → dy ≡ t.delta_y → length bs ≡ bytes_in g → Bytes bs → pair_by t.x_is_negative (x_shifted t n dx) t.y_is_negative (y_shifted t n dy) ≡ steps_by g r bs
+said g r bs t n dx dy same taken ex ey long ok =
+    let num : n ≡ number bs = taken ∙ as_number bs (omega (arith, few g)) (omega (arith, few g)) ok in
     let x : x_shifted t n dx ≡ x_size g r bs =
     ap (x_shifted t n) ex ∙ (ap (λ (k : ℕ). x_shifted t k t.delta_x) num ∙ (ap (λ (u : XYTriplet). x_shifted u (number bs) u.delta_x) same ∙ x_held g r bs long ok))
     in

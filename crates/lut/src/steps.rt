@@ -1,5 +1,5 @@
 //! The steps that a row and its bytes say.
-ghost use Rattle.std.specs.Prelude.{◌≡◌, ◌%◌, ◌≤◌, length, Ok, Err, MatchBool};
+ghost use Rattle.std.specs.Prelude.{fold, ◌+◌, ◌*◌, ◌≡◌, ◌%◌, ◌≤◌, length, Ok, Err, MatchBool};
 ghost use Rattle.lut.specs.Rows.{number, row_of};
 ghost use Rattle.lut.specs.Triplets.{bytes_in, group_of, pair_by, step, step_fits, steps_said};
 ghost use Rattle.read.specs.declared.error.ParseError.TheVariants.{BadValue};
@@ -16,17 +16,13 @@ fn signed(falls: bool, size: u32) -> Result<i16, ParseError>
     i16::try_from(step).map_err(|_| ParseError::BadValue)
 }
 
-// One to four bytes as one number, the highest first.
+// The bytes as one number, the highest first.
 fn number_of(bytes: &[u8]) -> u32
-    requires { (1 ≤ length bytes.now) × (length bytes.now ≤ 4) }
-    ensures { result ≡ number bytes.now }
+    ensures { result ≡ fold (λ number byte. number * 256 % 4294967296 + byte) 0 bytes.now }
 {
-    match bytes.len() {
-        1 => u32::from(bytes[0]),
-        2 => u32::from_be_bytes([0, 0, bytes[0], bytes[1]]),
-        3 => u32::from_be_bytes([0, bytes[0], bytes[1], bytes[2]]),
-        _ => u32::from_be_bytes([bytes[0], bytes[1], bytes[2], bytes[3]]),
-    }
+    bytes
+        .iter()
+        .fold(0, |number, byte| (number << 8) + u32::from(*byte))
 }
 
 // The steps that the bytes behind a flag say, by the flag's row.
