@@ -1,7 +1,7 @@
 //! The steps that a row and its bytes say.
-ghost use Rattle.std.specs.Prelude.{fold, ◌+◌, ◌*◌, ◌≡◌, ◌%◌, ◌≤◌, length, Ok, Err, MatchBool};
-ghost use Rattle.lut.specs.Rows.{number, row_of};
-ghost use Rattle.lut.specs.Triplets.{bytes_in, group_of, pair_by, step, step_fits, steps_said};
+ghost use Rattle.std.specs.Prelude.{◌≡◌, ◌+◌, ◌*◌, ◌%◌, length, Ok, Err, MatchBool, fold};
+ghost use Rattle.lut.specs.Rows.{row_of};
+ghost use Rattle.lut.specs.Triplets.{bytes_in, group_of, step, step_fits, steps_said};
 ghost use Rattle.read.specs.declared.error.ParseError.TheVariants.{BadValue};
 
 use crate::table::XYTriplet;

@@ -1,5 +1,5 @@
 //! The header of a transformed glyf table.
-ghost use Rattle.std.specs.Prelude.{◌≡◌, ◌+◌, ◌^◌, ◌<◌, ◌≤◌, length, Some, None, Ok, Err, MatchBool, MatchResult, nat_le};
+ghost use Rattle.std.specs.Prelude.{◌≡◌, ◌^◌, ◌<◌, length, Some, None, Ok, Err, MatchBool, MatchResult, nat_le};
 ghost use Rattle.read.specs.declared.error.ParseError.TheVariants.{BadEof};
 ghost use Rattle.woff2.specs.Transformed.{bitmap_size, boxes_at, header_said, spans_of, streams_fault, WorkedBitmaps};
 

@@ -1,7 +1,7 @@
 //! A sink that only counts.
-ghost use Rattle.std.specs.Prelude.{◌≡◌, ℕ, ◌+◌, ◌-◌, ◌≤◌, List, length, replicate, nat_le};
+ghost use Rattle.std.specs.Prelude.{replicate};
 ghost use Rattle.write.specs.Meanings as means;
-ghost use Rattle.write.specs.Sinks.{New, Put};
+ghost use Rattle.write.specs.Sinks.{New};
 ghost use Rattle.std.proofs.lemmas.List.{length-replicate};
 ghost use Rattle.std.proofs.Common.{rules};
 

@@ -1,8 +1,8 @@
 //! The checksum as a sink.
-ghost use Rattle.std.specs.Prelude.{◌≡◌, ℕ, ◌+◌, ◌-◌, ◌*◌, ◌%◌, ◌^◌, ◌≤◌, List, ◌++◌, length, replicate, nat_le};
+ghost use Rattle.std.specs.Prelude.{◌≡◌, ℕ, ◌-◌, ◌*◌, ◌%◌, ◌^◌, List, ◌++◌, length};
 ghost use Rattle.write.specs.Checksums.{checksum};
 ghost use Rattle.write.specs.Meanings as means;
-ghost use Rattle.write.specs.Sinks.{New, Put};
+ghost use Rattle.write.specs.Sinks.{New};
 ghost use Rattle.write.specs.Sums.{summed_by};
 ghost use Rattle.std.proofs.Common.{rules, arith};
 

@@ -15,7 +15,7 @@ whole : (b : Bool) (bs : List ℕ) (h said : GlyfHeader) (t : TransformedGlyphTa
 whole true bs h said t e f s =
     let same : h ≡ said = cc in
     (subst (λ (x : GlyfHeader). streams_fault x (length bs) ≡ None) same f, subst (λ (x : GlyfHeader). Streams x bs t) same s)
-whole false bs h said t e f s = let z : ◌≡◌ {A = ℕ} 0 1 = cc in absurd (omega arith)
+whole false bs h said t e f s = absurd (cc)
 
 pub returns : goal.returns
 returns c =
