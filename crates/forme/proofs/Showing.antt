@@ -2,6 +2,9 @@
 use Rattle.std.proofs.Common.{◌≡◌, ℕ, zero, suc, ◌+◌, ◌<◌, ◌≤◌, Bool, true, false, ltb, List, [], ◌∷◌, ◌++◌, length, take, drop, Some, None, vec_items, MatchBool, Option, sym, refl, ap, ◌∙◌, subst, arith, le-ltb, lt-ltb, le-leb, MatchOption}
 use Rattle.std.proofs.lemmas.List.{append_assoc, drop_at, length-append, take-append-drop, take_at}
 use Rattle.std.specs.List.{slice_get, flat_map}
+use Rattle.std.proofs.lemmas.Grind.{flat_map-append}
+use Rattle.std.proofs.lemmas.Option.{slice_get_cases}
+use Rattle.glyph.proofs.Records.{get_front}
 use Rattle.glyph.specs.Glyphs.{components_of, ends_of, Glyph, instructions_of, points_of}
 use Rattle.glyph.specs.Records.{behind, needed, part, record_of, records_of, start}
 use Rattle.glyph.specs.declared.lists.GlyphRecord.{GlyphRecord}
@@ -29,17 +32,12 @@ record_there at [] g after = refl
 record_there at (x ∷ before) g after = record_there (behind at x) before g after
 
 module _ {A : Type 0} (f : Glyph → List A) where
-  joined_split : (before : List Glyph) (g : Glyph) (after : List Glyph) → flat_map f (before ++ g ∷ after) ≡ flat_map f before ++ (f g ++ flat_map f after)
-  joined_split [] g after = refl
-  joined_split (x ∷ before) g after =
-      ap (λ (ys : List A). f x ++ ys) (joined_split before g after) ∙ sym (append_assoc (f x) (flat_map f before) (f g ++ flat_map f after))
-
   module _ (gs before after : List Glyph) (g : Glyph) (list : List A) (cut : gs ≡ before ++ g ∷ after) (front : take (length (flat_map f gs)) list ≡ flat_map f gs) where
     -- The list is what the glyphs before have, what the glyph has, and the rest.
     list_is : list ≡ flat_map f before ++ (f g ++ (flat_map f after ++ drop (length (flat_map f gs)) list))
     list_is =
         let whole : list ≡ flat_map f gs ++ drop (length (flat_map f gs)) list = sym (take-append-drop (length (flat_map f gs)) list) ∙ ap (λ (xs : List A). xs ++ drop (length (flat_map f gs)) list) front in
-        let parts : flat_map f gs ≡ flat_map f before ++ (f g ++ flat_map f after) = ap (flat_map f) cut ∙ joined_split before g after in
+        let parts : flat_map f gs ≡ flat_map f before ++ (f g ++ flat_map f after) = ap (flat_map f) cut ∙ flat_map-append f before (g ∷ after) in
         let rest = drop (length (flat_map f gs)) list in
         whole
         ∙ (ap (λ (xs : List A). xs ++ rest) parts
@@ -60,16 +58,8 @@ module _ {A : Type 0} (f : Glyph → List A) where
         let b = length-append (f g) rest in
         le-leb (length (flat_map f before) + length (f g)) (length list) (omega arith)
 
-nth_take : {A : Type 0} (n i : ℕ) (xs : List A) → i < n → slice_get (take n xs) i ≡ slice_get xs i
-nth_take zero i xs h = absurd (omega arith)
-nth_take (suc n) i [] h = refl
-nth_take (suc n) zero (x ∷ xs) h = refl
-nth_take (suc n) (suc i) (x ∷ xs) h = nth_take n i xs (omega arith)
-
 nth_none : {A : Type 0} (xs : List A) (i : ℕ) → slice_get xs i ≡ None → length xs ≤ i
-nth_none [] i h = omega arith
-nth_none (x ∷ xs) zero h = let z : ◌≡◌ {A = ℕ} 0 1 = cc in absurd (omega arith)
-nth_none (x ∷ xs) (suc i) h = let k = nth_none xs i h in omega arith
+nth_none xs i h = grind (arith, slice_get_cases)
 
 module _ (f : Forme) (ls : Lists) (gs : List Glyph) (held_All : Holds f ls gs) (i : ℕ) where
   -- Past the last glyph.
@@ -84,10 +74,10 @@ module _ (f : Forme) (ls : Lists) (gs : List Glyph) (held_All : Holds f ls gs) (
 
   module _ (g : Glyph) (here : slice_get gs i ≡ Some g) where
     -- The record at the glyph's place is its own.
-    record_here : (before after : List Glyph) → gs ≡ before ++ g ∷ after → length before ≡ i → i < length gs → slice_get (vec_items ls.records) i ≡ Some (record_of (needed before) g)
-    record_here before after cut long low =
-        sym (nth_take (length gs) i (vec_items ls.records) low)
-        ∙ (ap (λ (rs : List GlyphRecord). slice_get rs i) held_All.records
+    record_here : (before after : List Glyph) → gs ≡ before ++ g ∷ after → length before ≡ i → slice_get (vec_items ls.records) i ≡ Some (record_of (needed before) g)
+    record_here before after cut long =
+        get_front (length gs) i (vec_items ls.records) (record_of (needed before) g)
+        (ap (λ (rs : List GlyphRecord). slice_get rs i) held_All.records
         ∙ (ap (λ (xs : List Glyph). slice_get (records_of start xs) i) cut
         ∙ (ap (λ (k : ℕ). slice_get (records_of start (before ++ g ∷ after)) k) (sym long)
         ∙ (record_there start before g after ∙ ap (λ (at : Places). Some (record_of at g)) (needed_behind before)))))
@@ -125,7 +115,7 @@ module _ (f : Forme) (ls : Lists) (gs : List Glyph) (held_All : Holds f ls gs) (
         let few : i < f.glyphs = omega (arith, held_All.count) in
         let r = record_of (needed before) g in
         let counted : MatchOption (slice_get (vec_items ls.records) i) (o ≡ None) (λ x. Shown x ls o) = subst (λ (b : Bool). MatchBool b (MatchOption (slice_get (vec_items ls.records) i) (o ≡ None) (λ x. Shown x ls o)) (o ≡ None)) (lt-ltb i f.glyphs few) h in
-        let recorded : Shown r ls o = subst (λ (n : Option GlyphRecord). MatchOption n (o ≡ None) (λ x. Shown x ls o)) (record_here before s.1 s.2 s.3 low) counted in
+        let recorded : Shown r ls o = subst (λ (n : Option GlyphRecord). MatchOption n (o ≡ None) (λ x. Shown x ls o)) (record_here before s.1 s.2 s.3) counted in
         let viewed : MatchOption o ⊥ (λ v. Viewed r ls v) = subst (λ (b : Bool). MatchBool b (MatchOption o ⊥ (λ v. Viewed r ls v)) (o ≡ None)) (all_inside before s.1 s.2) recorded in
         shown_view r o (viewed_shows before s.1 s.2) viewed
 

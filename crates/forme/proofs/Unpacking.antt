@@ -9,7 +9,7 @@ use Rattle.glyph.specs.Records.{Fills, fitting, has_room, ReadInto, records_of, 
 use Rattle.glyph.specs.declared.lists.Lists.{Lists}
 use Rattle.glyph.specs.declared.refusal.Refusal.{Refusal}
 use Rattle.read.specs.Answers.{then}
-use Rattle.unpack.proofs.Runs.{records_length}
+use Rattle.glyph.proofs.Records.{records_length}
 use Rattle.unpack.specs.Glyphs.{table_said, unpacked}
 use Rattle.spelled.proofs.Tables.{said_is_spelled, spelled_is_said, spelled_once}
 use Rattle.forme.specs.Formes.{unfitted}

@@ -1,2 +1,3 @@
 pub mod Lays
 pub mod Outlines
+pub mod Records

@@ -1,19 +1,14 @@
 -- The left edge of a glyph that is held is that of its box.
-use Rattle.std.proofs.Common.{◌≡◌, ℕ, zero, suc, List, [], ◌∷◌, length, take, ℤ, Some, vec_items, refl, ap, ◌∙◌, arith}
+use Rattle.std.proofs.Common.{◌≡◌, ℕ, zero, suc, List, [], ◌∷◌, length, ℤ, Some, vec_items, refl, ap, ◌∙◌, arith}
 use Rattle.std.specs.List.{slice_get}
 use Rattle.binary.specs.declared.BoundingBox.{BoundingBox}
+use Rattle.glyph.proofs.Records.{get_front}
 use Rattle.glyph.specs.Glyphs.{box_of, Glyph}
 use Rattle.glyph.specs.Records.{behind, record_of, records_of, start}
 use Rattle.glyph.specs.declared.lists.GlyphRecord.{GlyphRecord}
 use Rattle.glyph.specs.declared.lists.Lists.{Lists}
 use Rattle.glyph.specs.declared.places.Places.{Places}
 use Rattle.held.specs.Edges.{edge_of, HeldEdge, left_edge}
-
-nth_front : {A : Type 0} (n i : ℕ) (xs : List A) (x : A) → slice_get (take n xs) i ≡ Some x → slice_get xs i ≡ Some x
-nth_front zero i xs x h = let z : ◌≡◌ {A = ℕ} 0 1 = cc in absurd (omega arith)
-nth_front (suc n) i [] x h = h
-nth_front (suc n) zero (y ∷ xs) x h = h
-nth_front (suc n) (suc i) (y ∷ xs) x h = nth_front n i xs x h
 
 -- The record of a glyph has its box.
 record_there : (at : Places) (gs : List Glyph) (i : ℕ) (g : Glyph) → slice_get gs i ≡ Some g → (r : GlyphRecord) × (slice_get (records_of at gs) i ≡ Some r) × (r.bbox ≡ box_of g)
@@ -26,6 +21,6 @@ held_edge ls i z e n gs g h here =
     let rs = vec_items ls.records in
     let there = record_there start gs i g here in
     let found : slice_get rs i ≡ Some there.0 =
-    nth_front (length gs) i rs there.0 (ap (λ (x : List GlyphRecord). slice_get x i) h.records ∙ there.1)
+    get_front (length gs) i rs there.0 (ap (λ (x : List GlyphRecord). slice_get x i) h.records ∙ there.1)
     in
     e ∙ (ap edge_of found ∙ ap (λ (b : BoundingBox). b.x_min) there.2)

@@ -13,6 +13,7 @@ fn edge_at(lists: &Lists, index: usize) -> i16
         .map_or(0, |glyph_record| glyph_record.bbox.x_min)
 }
 
+// Apart from `edge_at`: tried in one, and the proof did not close.
 fn edge_told(lists: &Lists, index: usize) -> i16
     ensures answer { result ≡ left_edge lists.now index }
     ensures glyph { HeldEdge lists.now index result }
