@@ -67,13 +67,9 @@ module _ (ls : Lists) where
       let p = part_lies at.points r.points xp (points_of g) b2.0 i.points_are in
       let c = part_lies at.components r.components xc (components_of g) b3.0 i.parts_are in
       let k = part_lies at.instructions r.instructions xh (instructions_of g) b3.1 i.hints_are in
-      let q = record_of at g in (
-        ap (λ (x : GlyphKind). record_by x r.bbox r.ends r.points r.components r.instructions) (sym i.kind_is)
-            ∙ (ap (λ (x : BoundingBox). record_by q.kind x r.ends r.points r.components r.instructions) (sym i.box_is)
-            ∙ (ap (λ (x : Part). record_by q.kind q.bbox x r.points r.components r.instructions) e.0
-            ∙ (ap (λ (x : Part). record_by q.kind q.bbox q.ends x r.components r.instructions) p.0
-            ∙ (ap (λ (x : Part). record_by q.kind q.bbox q.ends q.points x r.instructions) c.0
-            ∙ ap (λ (x : Part). record_by q.kind q.bbox q.ends q.points q.components x) k.0)))),
+      let q = record_of at g in
+      let same : record_by r.kind r.bbox r.ends r.points r.components r.instructions ≡ record_by q.kind q.bbox q.ends q.points q.components q.instructions = cc (i.kind_is, i.box_is, e.0, p.0, c.0, k.0) in (
+        same,
         record { ends = e.1; points = p.1; components = c.1; instructions = k.1 },
         i.sound,
       )
@@ -81,15 +77,7 @@ module _ (ls : Lists) where
   module _ (at : Places) (g : Glyph) (there : GlyphLies at ls g) where
     -- What the parts of its record hold is the glyph's own.
     own : {R : Type 0} (f : List ℕ → List Point → List Component → List ℕ → R) → f (cut (part at.ends (length (ends_of g))) xe) (cut (part at.points (length (points_of g))) xp) (cut (part at.components (length (components_of g))) xc) (cut (part at.instructions (length (instructions_of g))) xh) ≡ f (ends_of g) (points_of g) (components_of g) (instructions_of g)
-    own {R} f =
-        let ce = cut (part at.ends (length (ends_of g))) xe in
-        let cp = cut (part at.points (length (points_of g))) xp in
-        let cs = cut (part at.components (length (components_of g))) xc in
-        let ch = cut (part at.instructions (length (instructions_of g))) xh in
-        ap (λ (x : List ℕ). f x cp cs ch) there.ends.1
-        ∙ (ap (λ (x : List Point). f (ends_of g) x cs ch) there.points.1
-        ∙ (ap (λ (x : List Component). f (ends_of g) (points_of g) x ch) there.components.1
-        ∙ ap (λ (x : List ℕ). f (ends_of g) (points_of g) (components_of g) x) there.instructions.1))
+    own {R} f = cc (there.ends.1, there.points.1, there.components.1, there.instructions.1)
 
     glyph_of_record : glyph_from (record_of at g) ≡ g
     glyph_of_record = own (glyph_by (kind_of g) (box_of g)) ∙ glyph_again g

@@ -95,10 +95,8 @@ box_ok b h =
     let h0 = both_true (is_zero b.x_min) _ h in
     let h1 = both_true (is_zero b.y_min) _ h0.1 in
     let h2 = both_true (is_zero b.x_max) (is_zero b.y_max) h1.1 in
-    ap (λ (z : ℤ). box z (pos 0) (pos 0) (pos 0)) (zero_ok b.x_min h0.0)
-    ∙ (ap (λ (z : ℤ). box b.x_min z (pos 0) (pos 0)) (zero_ok b.y_min h1.0)
-    ∙ (ap (λ (z : ℤ). box b.x_min b.y_min z (pos 0)) (zero_ok b.x_max h2.0)
-    ∙ ap (λ (z : ℤ). box b.x_min b.y_min b.x_max z) (zero_ok b.y_max h2.1)))
+    let same : box (pos 0) (pos 0) (pos 0) (pos 0) ≡ box b.x_min b.y_min b.x_max b.y_max = cc (zero_ok b.x_min h0.0, zero_ok b.y_min h1.0, zero_ok b.x_max h2.0, zero_ok b.y_max h2.1) in
+    same
 
 -- A glyph by its kind, its box, and what it has of each list.
 abbrev pub glyph_by : GlyphKind → BoundingBox → List ℕ → List Point → List Component → List ℕ → Glyph
