@@ -46,6 +46,7 @@ fn read_next(
     ensures read { MatchResult (at_glyph i (glyph_said boxed (left streams.old))) (λ p. (result ≡ Ok (behind at p.0)) × (left streams.new ≡ p.1) × GlyphLaid at p.0 (in_slots slots.old) (in_slots slots.new) × (at.points + length (points_of p.0) ≤ length slots.old.points.now → slots.new.records.now ≡ laid i (record_of at p.0 ∷ []) slots.old.records.now) × (length streams.new.composites.rest.now + length (components_of p.0) ≤ length streams.old.composites.rest.now) × (length (ends_of p.0) ≤ 65535) × (length (points_of p.0) ≤ 65535) × (length (instructions_of p.0) ≤ 65535)) (λ e. result ≡ Err e) }
 {
     let taken = at_glyph(i, read_glyph(streams, boxed, slots, at))?;
+    // Lent anew: of a field that is passed as `&[Point]` a proof knows only the length afterwards.
     let points = &mut *slots.points;
     let record = record_of(taken, points, at);
     lay(slots.records, usize::from(i), record);

@@ -2,7 +2,7 @@ use Rattle.std.proofs.Common.{◌≡◌, ◌+◌, ◌-◌, ◌<◌, [], ◌∷�
 use Rattle.std.proofs.lemmas.List.{length_push}
 use Rattle.std.proofs.lemmas.Result.{err_from_is_err_and}
 use Rattle.glyph.specs.Laying.{laid}
-use Rattle.unpack.proofs.Ends.{ended, packed_missed, packed_took, refused, turned}
+use Rattle.unpack.proofs.Ends.{packed_took, refused, turned}
 use Rattle.glyph.proofs.Lays.{laid_more}
 use Rattle.unpack.proofs.Judged.{when_refused}
 use Rattle.unpack.proofs.outline.read_ends.Goals as goal
@@ -25,14 +25,6 @@ loop-i-preserved c =
       put,
       inv.3 ∙ turned c.args.contours i c.loop-i.points es bs low c.in_ok-size.size sum rest (packed_took bs rest c.in_ok-size.size c.in_ok-size.ensures) c.in_ok-sum.ensures,
     )
-
-pub returns-in_err-size : goal.returns-in_err-size
-returns-in_err-size c =
-    let inv = c.loop-i.invariant in
-    let p = err_from_is_err_and c.from_residual.result c.from_residual.ensures.1 in
-    let low : c.loop-i.i < c.args.contours = omega arith in
-    let e = inv.3 ∙ ended c.args.contours c.loop-i.i c.loop-i.points inv.0 c.loop-i.ctxt.rest.now low c.in_err-size.field-0.0 (packed_missed c.loop-i.ctxt.rest.now c.read.new.ctxt.rest.now c.in_err-size.field-0.0 c.in_err-size.ensures) in
-    when_refused _ _ _ _ e (p.1 ∙ ap Err p.2)
 
 pub returns-in_err-sum : goal.returns-in_err-sum
 returns-in_err-sum c =

@@ -1,11 +1,9 @@
-use Rattle.std.proofs.Common.{◌≡◌, ◌+◌, ◌<◌, [], ◌∷◌, ◌++◌, length, get_or, Err, sym, refl, ap, ◌∙◌, arith}
-use Rattle.std.proofs.lemmas.List.{drop_all, length_push}
-use Rattle.std.proofs.lemmas.Result.{err_from_is_err_and}
+use Rattle.std.proofs.Common.{◌≡◌, ◌+◌, ◌<◌, [], ◌∷◌, ◌++◌, length, get_or, sym, refl, ap, ◌∙◌, arith}
+use Rattle.std.proofs.lemmas.List.{length_push}
 use Rattle.glyph.specs.Laying.{laid}
-use Rattle.unpack.specs.Outlines.{point_said, points_said}
+use Rattle.unpack.specs.Outlines.{point_said}
 use Rattle.glyph.proofs.Lays.{laid_more}
-use Rattle.unpack.proofs.Points.{accepted, ended, rejected, turned}
-use Rattle.unpack.proofs.Judged.{when_accepted, when_refused}
+use Rattle.unpack.proofs.Points.{accepted, turned}
 use Rattle.unpack.proofs.outline.read_points.Goals as goal
 
 pub loop-i-preserved : goal.loop-i-preserved
@@ -30,27 +28,3 @@ loop-i-preserved c =
           ∙ turned c.args.flags.now bs i (get_or c.args.flags.now i 0) ps c.loop-i.last low refl p rest
           (accepted (point_said c.loop-i.last (get_or c.args.flags.now i 0) bs) rest p c.in_ok-next.ensures),
     )
-
-pub returns-in_err-next : goal.returns-in_err-next
-returns-in_err-next c =
-    let inv = c.loop-i.invariant in
-    let i = c.loop-i.i in
-    let bs = c.loop-i.glyphs.rest.now in
-    let rest = c.read_point.new.glyphs.rest.now in
-    let low : i < length c.args.flags.now = omega arith in
-    let p = err_from_is_err_and c.from_residual.result c.from_residual.ensures.1 in
-    let e =
-    inv.3
-    ∙ ended c.args.flags.now bs i (get_or c.args.flags.now i 0) inv.0 c.loop-i.last low refl c.in_err-next.field-0.0
-    (rejected (point_said c.loop-i.last (get_or c.args.flags.now i 0) bs) rest c.in_err-next.field-0.0 c.in_err-next.ensures)
-    in
-    when_refused _ _ _ _ e (p.1 ∙ ap Err p.2)
-
-pub returns : goal.returns
-returns c =
-    let inv = c.loop-i.invariant in
-    let e =
-    inv.3
-    ∙ ap (λ fs. points_said fs inv.0 c.loop-i.last c.loop-i.glyphs.rest.now) (drop_all c.loop-i.i c.args.flags.now c.loop-i-test.false)
-    in
-    when_accepted _ _ _ _ e (refl, refl, inv.2)

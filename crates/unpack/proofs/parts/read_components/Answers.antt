@@ -14,9 +14,6 @@ loop-component-init c =
     let all : suc (length bs) ≡ suc (length bs) - 0 = omega arith in
     ([], refl, omega arith, refl, ap (λ k. components_said k [] false bs) all)
 
-pub loop-component-smaller : goal.loop-component-smaller
-loop-component-smaller c = let got = part_took c.loop-component.ctxt.rest.now c.read_component.new.ctxt.rest.now c.in_ok-component.component c.in_ok-component.ensures in omega (arith, got.1)
-
 pub returns-in_err-component-clause-read : goal.returns-in_err-component-clause-read
 returns-in_err-component-clause-read c =
     let inv = c.loop-component.invariant in

@@ -1,34 +1,14 @@
-use Rattle.std.proofs.Common.{ℕ, ◌<◌, ◌≤◌, false, List, [], length, Ok, Err, unwrap_or, sym, refl, ap, ◌∙◌, arith, rules}
-use Rattle.std.proofs.lemmas.List.{drop_all, length-take}
+use Rattle.std.proofs.Common.{ℕ, ◌<◌, false, List, Err, unwrap_or, ap, ◌∙◌, arith}
 use Rattle.std.proofs.lemmas.Result.{err_from_is_err_and}
 use Rattle.std.specs.List.{slice_get}
 use Rattle.woff2.specs.Bits.{bits}
 use Rattle.glyph.specs.Records.{behind}
 use Rattle.unpack.specs.Contents.{in_slots}
 use Rattle.unpack.specs.Cursors.{left}
-use Rattle.unpack.specs.Glyphs.{glyphs_said}
 use Rattle.unpack.specs.Runs.{table_bits, table_streams}
-use Rattle.unpack.proofs.Judged.{fault, when_accepted, when_refused}
+use Rattle.unpack.proofs.Judged.{fault, when_refused}
 use Rattle.unpack.proofs.Reading.{bit_here, one_more, refused_here, same_through}
 use Rattle.unpack.proofs.run.read_glyphs.Goals as goal
-
-pub loop-i-init : goal.loop-i-init
-loop-i-init c =
-    let e = c.new-streams.ensures in
-    let d = c.default-at.ensures in (
-      record { records = refl; ends = refl; points = refl; components = refl; instructions = refl },
-      record {
-        gs = [];
-        count = refl;
-        places = search rules;
-        run = record { ends_laid = refl; points_laid = refl; components_laid = refl; hints_laid = refl; records_laid = (λ _. refl) };
-        few_ends = omega (arith, d.0);
-        few_points = omega (arith, d.1.0);
-        few_hints = omega (arith, d.1.1.1);
-        few_parts = omega (arith, d.1.1.0, ap (λ s. length s.composites) e);
-        same = ap (glyphs_said (table_bits c.args.sound.now.table) []) (sym e);
-      },
-    )
 
 pub returns-in_err-at-clause-read : goal.returns-in_err-at-clause-read
 returns-in_err-at-clause-read c =
@@ -62,10 +42,3 @@ loop-i-preserved c =
       one_more (table_bits t) (table_streams t) (left c.loop-i.streams) (left c.read_next.new.streams) i c.unwrap_or-boxed.result c.loop-i.at c.in_ok-at.at (in_slots c.args.slots.now) (in_slots c.loop-i.slots) (in_slots c.read_next.new.slots) here c.loop-i.invariant.1
           c.in_ok-at.ensures.read,
     )
-
-pub returns-clause-read : goal.returns-clause-read
-returns-clause-read c =
-    let t = c.args.sound.now.table in
-    let inv = c.loop-i.invariant.1 in
-    let short : length (table_bits t) ≤ c.loop-i.i = omega (arith, length-take t.header.num_glyphs (bits t.bbox_bitmap.bytes.now)) in
-    when_accepted _ _ _ _ (inv.same ∙ ap (λ bs. glyphs_said bs inv.gs (left c.loop-i.streams)) (drop_all c.loop-i.i (table_bits t) short)) (ap Ok inv.places, inv.run)
