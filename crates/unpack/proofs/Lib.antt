@@ -1,6 +1,4 @@
-pub mod Apart
 pub mod Components
-pub mod Counts
 pub mod Ends
 pub mod Filling
 pub mod Judged
