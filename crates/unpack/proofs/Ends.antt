@@ -1,8 +1,7 @@
 -- How the ends of a glyph's contours are read, one contour after the other.
 use Rattle.std.proofs.Common.{◌≡◌, ℕ, suc, ◌+◌, ◌-◌, ◌<◌, true, false, ltb, leb, List, [], ◌∷◌, ◌++◌, length, Ok, Err, Result, sym, refl, ap, ◌∙◌, arith, le-leb}
-use borrow.Author.Tests.{lt-leb}
 use Rattle.read.specs.Tests.{both}
-use Rattle.read.proofs.Taking.{missed, took}
+use Rattle.read.proofs.Taking.{took}
 use Rattle.read.specs.Reading.{Takes}
 use Rattle.read.specs.declared.error.ParseError.{ParseError}
 use Rattle.read.specs.declared.error.ParseError.TheVariants.{BadEof, BadValue}
@@ -20,20 +19,12 @@ packed_took bs rest v t =
     let f = got.2 in
     rw (le-leb (packed_size bs) (length bs) got.0) (cc)
 
-pub packed_missed : (bs rest : List ℕ) (d : ParseError) → Takes (packed_size bs) Says BadEof bs (Err d) rest → packed bs ≡ Err d
-packed_missed bs rest d t =
-    let m = missed (packed_size bs) Says BadEof bs rest d t in
-    rw (lt-leb (packed_size bs) (length bs) m.0) (ap (λ (x : ParseError). Err x) (sym m.1))
-
 module _ (k sum v : ℕ) (es bs rest : List ℕ) (read : packed bs ≡ Ok (v, rest)) where
   pub ends_next : both (ltb 0 (sum + v)) (leb (sum + v) 65535) ≡ true → ends_said (suc k) es sum bs ≡ ends_said k (es ++ (sum + v - 1) ∷ []) (sum + v) rest
   ends_next e = rw (read, e) refl
 
   pub ends_bad : both (ltb 0 (sum + v)) (leb (sum + v) 65535) ≡ false → ends_said (suc k) es sum bs ≡ Err BadValue
   ends_bad e = rw (read, e) refl
-
-pub ends_cut : (k sum : ℕ) (es bs : List ℕ) (d : ParseError) → packed bs ≡ Err d → ends_said (suc k) es sum bs ≡ Err d
-ends_cut k sum es bs d e = rw e refl
 
 abbrev Sums : ℕ → ℕ → Result ℕ ParseError → Type 0
 Sums points v r = Judges (both (ltb 0 (points + v)) (leb (points + v) 65535)) (points + v) r
@@ -54,6 +45,3 @@ module _ (c i points : ℕ) (es bs : List ℕ) (low : i < c) where
   refused v rest d p s =
       let e = failed (both (ltb 0 (points + v)) (leb (points + v) 65535)) (points + v) d s in
       one_less ∙ (ends_bad (c - (i + 1)) points v es bs rest p e.0 ∙ ap (λ (x : ParseError). Err x) (sym e.1))
-
-  pub ended : (d : ParseError) → packed bs ≡ Err d → ends_said (c - i) es points bs ≡ Err d
-  ended d e = one_less ∙ ends_cut (c - (i + 1)) points es bs d e

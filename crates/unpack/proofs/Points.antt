@@ -19,19 +19,9 @@ stepped true r bs rest fb back result h q e =
     rw s (cc)
 stepped false r bs rest fb back result h q e = let f = h.0 in let z : ◌≡◌ {A = ℕ} 0 1 = cc in absurd (omega arith)
 
-unstepped : (b : Bool) (r : ℕ) (bs rest front_Bytes back : List ℕ) (result : Result (ℤ × ℤ) ParseError) → MatchBool b ((result ≡ steps_said r front_Bytes) × (rest ≡ back)) ((result ≡ Err BadEof) × (rest ≡ bs)) → (d : ParseError) → result ≡ Err d → then {A = List ℕ × List ℕ} {B = (ℤ × ℤ) × List ℕ} (cond b (Ok (front_Bytes, back)) (Err BadEof)) (λ p. then (steps_said r p.0) (λ s. Ok (s, p.1))) ≡ Err d
-unstepped true r bs rest fb back result h d e =
-    let s : steps_said r fb ≡ Err d = sym h.0 ∙ e in
-    rw s refl
-unstepped false r bs rest fb back result h d e = let f = h.0 in cc
-
 pub steps_took : (r : ℕ) (bs rest : List ℕ) (q : ℤ × ℤ) → Triplet r bs (Ok q) rest → steps r bs ≡ Ok (q, rest)
 steps_took r bs rest q t =
     stepped (leb (bytes_in (group_of r)) (length bs)) r bs rest (take (bytes_in (group_of r)) bs) (drop (bytes_in (group_of r)) bs) (Ok q) t q refl
-
-pub steps_missed : (r : ℕ) (bs rest : List ℕ) (d : ParseError) → Triplet r bs (Err d) rest → steps r bs ≡ Err d
-steps_missed r bs rest d t =
-    unstepped (leb (bytes_in (group_of r)) (length bs)) r bs rest (take (bytes_in (group_of r)) bs) (drop (bytes_in (group_of r)) bs) (Err d) t d refl
 
 -- What the loop over the flags does at the flag `i`.
 module _ (flags bs : List ℕ) (i f : ℕ) (ps : List Point) (last : Point) (low : i < length flags) (here : f ≡ get_or flags i 0) where
@@ -43,19 +33,12 @@ module _ (flags bs : List ℕ) (i f : ℕ) (ps : List Point) (last : Point) (low
   pub turned : (p : Point) (rest : List ℕ) → point_said last f bs ≡ Ok (p, rest) → points_said (drop i flags) ps last bs ≡ points_said (drop (i + 1) flags) (ps ++ p ∷ []) p rest
   turned p rest e = one_more ∙ rw e refl
 
-  pub ended : (d : ParseError) → point_said last f bs ≡ Err d → points_said (drop i flags) ps last bs ≡ Err d
-  ended d e = one_more ∙ rw e refl
-
 -- An answer is known from what is said of it.
 pub accepted : {A : Type 0} (s : Result (A × List ℕ) ParseError) (rest : List ℕ) (x : A) → MatchResult s (λ p. (◌≡◌ {A = Result A ParseError} (Ok x) (Ok p.0)) × (rest ≡ p.1)) (λ e. ◌≡◌ {A = Result A ParseError} (Ok x) (Err e)) → s ≡ Ok (x, rest)
 accepted {A} (Ok p) rest x h =
     let e : x ≡ p.0 = let f = h.0 in cc in
     ap (λ (y : A). Ok (y, p.1)) (sym e) ∙ ap (λ (r : List ℕ). Ok (x, r)) (sym h.1)
 accepted (Err d) rest x h = let z : ◌≡◌ {A = ℕ} 0 1 = cc in absurd (omega arith)
-
-pub rejected : {A : Type 0} (s : Result (A × List ℕ) ParseError) (rest : List ℕ) (d : ParseError) → MatchResult s (λ p. (◌≡◌ {A = Result A ParseError} (Err d) (Ok p.0)) × (rest ≡ p.1)) (λ e. ◌≡◌ {A = Result A ParseError} (Err d) (Err e)) → s ≡ Err d
-rejected (Ok p) rest d h = let f = h.0 in let z : ◌≡◌ {A = ℕ} 0 1 = cc in absurd (omega arith)
-rejected (Err e) rest d h = let f : d ≡ e = cc in ap (λ (x : ParseError). Err x) (sym f)
 
 abbrev Moves : ℤ → Result ℤ ParseError → Type 0
 Moves z r = Judges (placed z) z r

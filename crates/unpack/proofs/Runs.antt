@@ -1,16 +1,14 @@
 -- Glyphs that were read so far, and one more.
-use Rattle.std.proofs.Common.{◌≡◌, ℕ, suc, ◌+◌, ◌≤◌, List, [], ◌∷◌, ◌++◌, length, sym, refl, ap, ◌∙◌, subst, arith}
+use Rattle.std.proofs.Common.{◌≡◌, ℕ, suc, ◌+◌, ◌≤◌, List, [], ◌∷◌, ◌++◌, length, sym, refl, ap, ◌∙◌, arith}
 use Rattle.std.proofs.lemmas.List.{append_assoc, append-nil, length-append}
 use Rattle.std.specs.List.{flat_map}
 use Rattle.glyph.proofs.Lays.{laid_append, laid_more, length_laid}
 use Rattle.glyph.specs.Glyphs.{components_of, ends_of, Glyph, instructions_of, points_of}
 use Rattle.glyph.specs.Laying.{laid}
 use Rattle.glyph.specs.Records.{behind, needed, record_of, records_of, start}
-use Rattle.glyph.specs.declared.component.Component.{Component}
 use Rattle.glyph.specs.declared.lists.GlyphRecord.{GlyphRecord}
-use Rattle.glyph.specs.declared.lists.Point.{Point}
 use Rattle.glyph.specs.declared.places.Places.{Places}
-use Rattle.unpack.specs.Contents.{Contents, contents}
+use Rattle.unpack.specs.Contents.{Contents}
 use Rattle.unpack.specs.Runs.{RunLaid}
 use Rattle.unpack.specs.Taken.{GlyphLaid}
 
@@ -101,17 +99,3 @@ module _ (gs : List Glyph) (g : Glyph) (i : ℕ) (at : Places) (count : length g
             ∙ (ap (laid i (record_of (needed gs) g ∷ [])) (run.records_laid (omega arith))
             ∙ (sym (laid_more 0 i (records_of start gs) (record_of (needed gs) g) old.records long) ∙ ap (λ (rs : List GlyphRecord). laid 0 rs old.records) (sym (records_more gs g))))));
       }
-
-unfoldable contents_of : List GlyphRecord → List ℕ → List Point → List Component → List ℕ → Contents
-contents_of r e p c i = contents r e p c i
-
-pub same_contents : (a b : Contents) → a.records ≡ b.records → a.ends ≡ b.ends → a.points ≡ b.points → a.components ≡ b.components → a.instructions ≡ b.instructions → a ≡ b
-unfolding contents_of
-same_contents a b r e p c i =
-    let h : contents_of a.records a.ends a.points a.components a.instructions ≡ contents_of b.records b.ends b.points b.components b.instructions = cc in
-    h
-
--- The same run in lists that are known to be equal.
-pub run_moved : (gs : List Glyph) {a b c d : Contents} → a ≡ b → d ≡ c → RunLaid gs a c → RunLaid gs b d
-run_moved gs {a} {b} {c} {d} before after run =
-    subst (λ x. RunLaid gs x d) before (subst (λ x. RunLaid gs a x) (sym after) run)

@@ -11,7 +11,7 @@ use Rattle.glyph.specs.declared.lists.Point.{Point}
 use Rattle.read.specs.Answers.{front}
 use Rattle.read.specs.declared.error.ParseError.{ParseError}
 use Rattle.unpack.specs.Composites.{components_said}
-use Rattle.read.proofs.Thens.{front_is, refused_first, then_accepted}
+use Rattle.read.proofs.Thens.{front_is, then_accepted}
 use Rattle.std.proofs.lemmas.List.{length-take-le}
 use Rattle.unpack.proofs.Judged.{same_ok, told, when_accepted}
 use Rattle.unpack.proofs.Lengths.{ends_length, points_length}
@@ -27,13 +27,7 @@ use Rattle.unpack.specs.Taken.{box_field, GlyphRead, taken_by}
 
 module _ (boxed : Bool) (c : ℕ) (s : Rest) (e : List ℕ × ℕ × List ℕ) (f : List ℕ × List ℕ) (p : List Point × List ℕ)
     (ends : ends_said c [] 0 s.points ≡ Ok e) (flags : front e.1 s.flags ≡ Ok f) (points : points_said f.0 [] origin s.glyphs ≡ Ok p) where
-  pub no_hints : (d : ParseError) → instructions_said p.1 s.instructions ≡ Err d → simple_said boxed c s ≡ Err d
-  no_hints d h = rw (ends, flags, points, h) refl
-
   module _ (i : List ℕ × List ℕ × List ℕ) (hints : instructions_said p.1 s.instructions ≡ Ok i) where
-    pub no_box_read : (d : ParseError) → box_or boxed (bounds p.0) s.boxes ≡ Err d → simple_said boxed c s ≡ Err d
-    no_box_read d h = rw (ends, flags, points, hints, h) refl
-
     pub simple_read : (b : BoundingBox × List ℕ) → box_or boxed (bounds p.0) s.boxes ≡ Ok b → simple_said boxed c s ≡ Ok (simple b.0 e.0 p.0 i.0, record { contours = s.contours; points = e.2; flags = f.1; glyphs = i.1; composites = s.composites; boxes = b.1; instructions = i.2 })
     simple_read b h = rw (ends, flags, points, hints, h) refl
 
@@ -45,10 +39,6 @@ module _ (given : BoundingBox) (bs : List ℕ) where
       let e = a.2 in
       (a.0, a.1, cc, cc)
   box_or_own false q h = ((given, bs), refl, cc, cc)
-
-  pub box_or_missed : (boxed : Bool) (d : ParseError) → box_field boxed bs ≡ Err d → box_or boxed given bs ≡ Err d
-  box_or_missed true d h = refused_first (box_front bs) (λ p. (Some p.0, p.1)) d h
-  box_or_missed false d h = let z : ◌≡◌ {A = ℕ} 0 1 = cc in absurd (omega arith)
 
 -- A simple glyph that was read and laid.
 module _ (boxed : Bool) (c : ℕ) (s s' : Rest) (at : Places) (count n hints : ℕ) (bbox : Option BoundingBox) (fs g1 : List ℕ) (before after : Contents) where
@@ -82,13 +72,7 @@ module _ (boxed : Bool) (c : ℕ) (s s' : Rest) (at : Places) (count n hints : �
       )
 
 module _ (boxed : Bool) (s : Rest) (c : List Component × Bool × List ℕ) (parts : components_said (suc (length s.composites)) [] false s.composites ≡ Ok c) where
-  pub no_marked : (d : ParseError) → marked_instructions c.1 s.glyphs s.instructions ≡ Err d → composite_said boxed s ≡ Err d
-  no_marked d h = rw (parts, h) refl
-
   module _ (i : List ℕ × List ℕ × List ℕ) (hints : marked_instructions c.1 s.glyphs s.instructions ≡ Ok i) where
-    pub no_own_box : (d : ParseError) → own_box boxed s.boxes ≡ Err d → composite_said boxed s ≡ Err d
-    no_own_box d h = rw (parts, hints, h) refl
-
     pub composite_read : (b : BoundingBox × List ℕ) → own_box boxed s.boxes ≡ Ok b → composite_said boxed s ≡ Ok (composite b.0 c.0 i.0, record { contours = s.contours; points = s.points; flags = s.flags; glyphs = i.1; composites = c.2; boxes = b.1; instructions = i.2 })
     composite_read b h = rw (parts, hints, h) refl
 
@@ -101,10 +85,6 @@ module _ (bs : List ℕ) where
       let left : a.0.1 ≡ q.1 = cc in
       (refl, a.1 ∙ (ap (λ (x : BoundingBox). Ok (x, a.0.1)) same ∙ ap (λ (r : List ℕ). Ok (box, r)) left))
   own_box_read false q box h e = let z : ◌≡◌ {A = ℕ} 0 1 = cc in absurd (omega arith)
-
-  pub own_box_missed : (boxed : Bool) (d : ParseError) → box_field boxed bs ≡ Err d → own_box boxed bs ≡ Err d
-  own_box_missed true d h = refused_first (box_front bs) (λ p. (Some p.0, p.1)) d h
-  own_box_missed false d h = let z : ◌≡◌ {A = ℕ} 0 1 = cc in absurd (omega arith)
 
 -- A composite glyph that was read and laid.
 module _ (boxed mark : Bool) (s s' : Rest) (at : Places) (count hints : ℕ) (box : BoundingBox) (got : Option BoundingBox) (before after : Contents) where
