@@ -55,6 +55,8 @@ fn lay_glyphs(sound: &SoundTable<'_>, lists: &mut Lists) -> Result<Places, Refus
     )
 }
 
+// The slices come one by one: of those that `as_mut_slice` lends straight into a `Slots`, no proof was found of what the
+// lists hold afterwards.
 fn lay_slices(
     sound: &SoundTable<'_>,
     records: &mut [GlyphRecord],
