@@ -68,6 +68,9 @@ fn box_of(own: Option<BoundingBox>, points: &[Point]) -> BoundingBox
 fn own_points<'a>(points: &'a [Point], start: u32, len: u16) -> &'a [Point]
     ensures { result.now ≡ own_points points.now start len }
 {
-    let start = start as usize;
-    points.get(start..start + usize::from(len)).unwrap_or(&[])
+    let part = Part {
+        start,
+        len: u32::from(len),
+    };
+    part.of(points).unwrap_or(&[])
 }
