@@ -1,17 +1,12 @@
 -- What the first bytes of a list say, and how they are spelled again.
-use Rattle.std.specs.Prelude.{◌≡◌, ℕ, zero, suc, ◌+◌, ◌*◌, ◌/◌, ◌%◌, ◌<◌, ◌≤◌, List, [], ◌∷◌, ◌++◌, length, take, drop, refl}
+use Rattle.std.specs.Prelude.{◌≡◌, ℕ, ◌+◌, ◌*◌, ◌/◌, ◌%◌, ◌<◌, ◌≤◌, List, [], ◌∷◌, ◌++◌, length, take, drop, refl}
 use Rattle.std.proofs.Common.{sym, ap, ◌∙◌, add-zero, arith}
 use Rattle.std.specs.Int.{w8, w16}
 use mir.Val.{to_z}
 use Rattle.std.proofs.lemmas.List.{take-append-drop, drop-drop, get_or-drop, length-drop, take_all}
 use Rattle.std.proofs.lemmas.Int.{of_z-to_z}
-use Rattle.read.specs.Bytes.{AllBytes}
+use Rattle.read.specs.Bytes.{AllBytes, bytes_drop}
 use Rattle.binary.specs.Bytes.{u8_said, i8_said, u16_at, i16_at, u16_said, i16_said, u32_said, u8_bytes, i8_bytes, u16_bytes, i16_bytes, u32_bytes, box_bytes, box_said, metric_bytes, metric_said}
-
-pub bytes_drop : (n : ℕ) (bs : List ℕ) → AllBytes bs → AllBytes (drop n bs)
-bytes_drop zero bs h = h
-bytes_drop (suc n) [] h = h
-bytes_drop (suc n) (b ∷ bs) h = bytes_drop n bs h.1
 
 -- What was read is written back.
 pub u8_again : (bs : List ℕ) → 1 ≤ length bs → u8_bytes (u8_said bs) ≡ take 1 bs

@@ -53,6 +53,7 @@ fn write_all<T: WriteBinary, C: WriteContext, I: Iterator<Item = T::HostType> + 
 }
 
 // Whether there is space for `n` fields.
+#[tactic(auto, using(crate::proofs::Walks::room_for))]
 fn has_space<T: WriteBinary, C: WriteContext>(ctxt: &C, n: usize) -> bool
     ensures { (vs : List T.HostType) → length vs ≡ n → result ≡ nat_le (length (flat_map T.encode vs)) (C.meaning.space ctxt.now) }
 {

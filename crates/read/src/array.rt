@@ -76,6 +76,7 @@ impl<'a, T: ReadUnchecked> Iterator for ReadArrayIter<'a, T> {
 }
 
 // How many whole fields some bytes hold.
+#[tactic(auto, using(crate::proofs::Arrays::fields_length))]
 fn whole_fields<T: ReadUnchecked>(bytes: &[u8]) -> usize
     ensures { result ≡ length (fields T.SIZE T.decode bytes.now) }
 {
@@ -83,6 +84,7 @@ fn whole_fields<T: ReadUnchecked>(bytes: &[u8]) -> usize
 }
 
 // Where the field at an index begins in `len` bytes. All of it is there.
+#[tactic(auto, using(crate::proofs::Arrays::ends_inside))]
 fn place<T: ReadUnchecked>(len: usize, index: usize) -> Option<usize>
     ensures { MatchOption result (len / T.SIZE ≤ index) (λ at. (index < len / T.SIZE) × (at ≡ index * T.SIZE) × (at + T.SIZE ≤ len)) }
 {
@@ -95,6 +97,7 @@ fn place<T: ReadUnchecked>(len: usize, index: usize) -> Option<usize>
 }
 
 // The bytes of the field at an index.
+#[tactic(auto, using(crate::proofs::Arrays::field_at, crate::proofs::Arrays::field_past))]
 fn field_bytes<'a, T: ReadUnchecked>(bytes: &'a [u8], index: usize) -> Option<&'a [u8]>
     ensures { MatchOption result (slice_get (fields T.SIZE T.decode bytes.now) index ≡ None) (λ item. (length item.now ≡ T.SIZE) × (slice_get (fields T.SIZE T.decode bytes.now) index ≡ Some (T.decode item.now))) }
 {
@@ -104,6 +107,7 @@ fn field_bytes<'a, T: ReadUnchecked>(bytes: &'a [u8], index: usize) -> Option<&'
 }
 
 // The bytes of the first field, and those behind it.
+#[tactic(auto, using(crate::proofs::Arrays::fields_more, crate::proofs::Arrays::fields_none))]
 fn first_field<'a, T: ReadUnchecked>(bytes: &'a [u8]) -> Option<(&'a [u8], &'a [u8])>
     ensures { MatchOption result (fields T.SIZE T.decode bytes.now ≡ []) (λ p. (length p.0.now ≡ T.SIZE) × (fields T.SIZE T.decode bytes.now ≡ T.decode p.0.now ∷ fields T.SIZE T.decode p.1.now) × (length p.1.now < length bytes.now)) }
 {

@@ -9,10 +9,10 @@ pub struct ReadEof {}
 
 #[derive(Clone, Copy, PartialEq, Eq, Debug)]
 pub enum ParseError {
-    BadEof,
-    BadValue,
-    BadIndex,
-    BadOffset,
+    BadEof = 1,
+    BadValue = 2,
+    BadIndex = 3,
+    BadOffset = 4,
 }
 
 impl From<ReadEof> for ParseError {
@@ -28,11 +28,6 @@ impl ParseError {
     pub fn number(self) -> u8
         ensures { result ≡ number_of self }
     {
-        match self {
-            ParseError::BadEof => 1,
-            ParseError::BadValue => 2,
-            ParseError::BadIndex => 3,
-            ParseError::BadOffset => 4,
-        }
+        self as u8
     }
 }
