@@ -9,6 +9,8 @@ ghost use Rattle.binary.specs.Spellings.{u8_again, i8_again, u16_again, i16_agai
 use crate::{BoundingBox, F2Dot14, I8, I16Be, LongHorMetric, U8, U16Be, U32Be, size};
 use read::ReadUnchecked;
 
+// Each number has an impl of its own. One generic impl would need a trait of numbers, and the
+// impls of that trait would give the same members again.
 impl ReadUnchecked for U8 {
     type HostType = u8;
 
@@ -83,8 +85,7 @@ impl ReadUnchecked for U16Be {
     ghost some = { Prim.search rules };
 
     fn read_unchecked(bytes: &[u8]) -> u16 {
-        let [hi, lo] = [bytes[0], bytes[1]];
-        u16::from_be_bytes([hi, lo])
+        u16::from_be_bytes([bytes[0], bytes[1]])
     }
 }
 
@@ -110,8 +111,7 @@ impl ReadUnchecked for I16Be {
     ghost some = { Prim.search rules };
 
     fn read_unchecked(bytes: &[u8]) -> i16 {
-        let [hi, lo] = [bytes[0], bytes[1]];
-        i16::from_be_bytes([hi, lo])
+        i16::from_be_bytes([bytes[0], bytes[1]])
     }
 }
 
@@ -163,7 +163,7 @@ impl ReadUnchecked for F2Dot14 {
     ghost some = { Prim.search rules };
 
     fn read_unchecked(bytes: &[u8]) -> F2Dot14 {
-        F2Dot14(i16::from_be_bytes([bytes[0], bytes[1]]))
+        F2Dot14(I16Be::read_unchecked(bytes))
     }
 }
 
@@ -190,10 +190,10 @@ impl ReadUnchecked for BoundingBox {
 
     fn read_unchecked(bytes: &[u8]) -> BoundingBox {
         BoundingBox {
-            x_min: i16::from_be_bytes([bytes[0], bytes[1]]),
-            y_min: i16::from_be_bytes([bytes[2], bytes[3]]),
-            x_max: i16::from_be_bytes([bytes[4], bytes[5]]),
-            y_max: i16::from_be_bytes([bytes[6], bytes[7]]),
+            x_min: I16Be::read_unchecked(&bytes[0..2]),
+            y_min: I16Be::read_unchecked(&bytes[2..4]),
+            x_max: I16Be::read_unchecked(&bytes[4..6]),
+            y_max: I16Be::read_unchecked(&bytes[6..8]),
         }
     }
 }
@@ -221,8 +221,8 @@ impl ReadUnchecked for LongHorMetric {
 
     fn read_unchecked(bytes: &[u8]) -> LongHorMetric {
         LongHorMetric {
-            advance_width: u16::from_be_bytes([bytes[0], bytes[1]]),
-            lsb: i16::from_be_bytes([bytes[2], bytes[3]]),
+            advance_width: U16Be::read_unchecked(&bytes[0..2]),
+            lsb: I16Be::read_unchecked(&bytes[2..4]),
         }
     }
 }
