@@ -12,6 +12,7 @@ pub trait WriteBinary: ReadUnchecked {
         ensures { Puts C.WriteContext.meaning (Self.ReadUnchecked.encode value) ctxt.old result ctxt.new };
 }
 
+// Each number has an impl of its own, as where it is read.
 impl WriteBinary for U8 {
     fn write<C: WriteContext>(ctxt: &mut C, value: u8) -> Result<(), WriteError> {
         ctxt.write_bytes(&[value])
@@ -50,18 +51,19 @@ impl WriteBinary for F2Dot14 {
 
 impl WriteBinary for BoundingBox {
     fn write<C: WriteContext>(ctxt: &mut C, value: BoundingBox) -> Result<(), WriteError> {
-        let [a, b] = value.x_min.to_be_bytes();
-        let [c, d] = value.y_min.to_be_bytes();
-        let [e, f] = value.x_max.to_be_bytes();
-        let [g, h] = value.y_max.to_be_bytes();
-        ctxt.write_bytes(&[a, b, c, d, e, f, g, h])
+        let corners = [
+            value.x_min.to_be_bytes(),
+            value.y_min.to_be_bytes(),
+            value.x_max.to_be_bytes(),
+            value.y_max.to_be_bytes(),
+        ];
+        ctxt.write_bytes(corners.as_flattened())
     }
 }
 
 impl WriteBinary for LongHorMetric {
     fn write<C: WriteContext>(ctxt: &mut C, value: LongHorMetric) -> Result<(), WriteError> {
-        let [a, b] = value.advance_width.to_be_bytes();
-        let [c, d] = value.lsb.to_be_bytes();
-        ctxt.write_bytes(&[a, b, c, d])
+        let parts = [value.advance_width.to_be_bytes(), value.lsb.to_be_bytes()];
+        ctxt.write_bytes(parts.as_flattened())
     }
 }
