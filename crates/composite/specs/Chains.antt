@@ -1,7 +1,6 @@
 -- The components of a composite glyph.
-use Rattle.std.specs.Prelude.{◌≡◌, Bool, true, false, List, [], ◌∷◌}
+use Rattle.std.specs.Prelude.{◌≡◌, Bool, true, false, ◌||◌, List, [], ◌∷◌}
 use Rattle.glyph.specs.declared.component.Component.{Component}
-use Rattle.read.specs.Tests.{either}
 use Rattle.composite.specs.Components.{has}
 
 -- Just the last component lacks MORE_COMPONENTS.
@@ -13,4 +12,4 @@ Chained (c ∷ (d ∷ cs)) = (has c.flags 0x0020 ≡ true) × Chained (d ∷ cs)
 -- Whether a component has WE_HAVE_INSTRUCTIONS.
 abbrev pub marked : List Component → Bool
 marked [] = false
-marked (c ∷ cs) = either (has c.flags 0x0100) (marked cs)
+marked (c ∷ cs) = has c.flags 0x0100 || marked cs

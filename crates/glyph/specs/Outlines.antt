@@ -1,6 +1,5 @@
 -- Contours and points.
-use Rattle.std.specs.Prelude.{ℕ, suc, Bool, true, List, [], ◌∷◌, ℤ, pos, negsuc, ◌≤ℤ◌, int_le}
-use Rattle.read.specs.Tests.{both}
+use Rattle.std.specs.Prelude.{ℕ, suc, Bool, true, ◌&&◌, List, [], ◌∷◌, ℤ, pos, negsuc, ◌≤ℤ◌, int_le}
 use Rattle.glyph.specs.declared.lists.Point.{Point}
 
 -- How many points contours have that end at the given points.
@@ -14,7 +13,7 @@ abbrev pub InRange : ℤ → Type 0
 InRange z = (negsuc 32767 ≤ℤ z) × (z ≤ℤ pos 32767)
 
 abbrev pub placed : ℤ → Bool
-placed z = both (int_le (negsuc 32767) z) (int_le z (pos 32767))
+placed z = int_le (negsuc 32767) z && int_le z (pos 32767)
 
 -- The first point is a pair of steps from here.
 abbrev pub origin : Point

@@ -1,7 +1,6 @@
 -- Where glyphs lie in the lists.
-use Rattle.std.specs.Prelude.{◌≡◌, ℕ, ◌+◌, min, Bool, cond, List, [], ◌∷◌, length, Ok, Err, vec_items, Result, MatchResult, nat_le}
+use Rattle.std.specs.Prelude.{◌≡◌, ℕ, ◌+◌, min, Bool, cond, ◌&&◌, List, [], ◌∷◌, length, Ok, Err, vec_items, Result, MatchResult, nat_le}
 use Rattle.std.specs.List.{flat_map}
-use Rattle.read.specs.Tests.{both}
 use Rattle.glyph.specs.Causes.{too_short}
 use Rattle.glyph.specs.Glyphs.{box_of, components_of, ends_of, Glyph, instructions_of, kind_of, points_of}
 use Rattle.glyph.specs.Laying.{filled}
@@ -61,10 +60,11 @@ needed gs =
 -- The lists have as many places.
 abbrev pub room_for : ℕ → Places → Lists → Bool
 room_for glyphs at ls =
-    both (nat_le glyphs (places (vec_items ls.records)))
-    (both (nat_le at.ends (places (vec_items ls.ends)))
-    (both (nat_le at.points (places (vec_items ls.points)))
-    (both (nat_le at.components (places (vec_items ls.components))) (nat_le at.instructions (places (vec_items ls.instructions))))))
+    nat_le glyphs (places (vec_items ls.records))
+    && (nat_le at.ends (places (vec_items ls.ends))
+    && (nat_le at.points (places (vec_items ls.points))
+    && (nat_le at.components (places (vec_items ls.components))
+    && nat_le at.instructions (places (vec_items ls.instructions)))))
 
 -- The lists have a place for every glyph, end, point, component and instruction byte.
 abbrev pub has_room : List Glyph → Lists → Bool

@@ -1,6 +1,5 @@
 -- What is shown of a glyph.
-use Rattle.std.specs.Prelude.{◌≡◌, Bool, None, vec_items, MatchBool, Option, MatchOption}
-use Rattle.read.specs.Tests.{both}
+use Rattle.std.specs.Prelude.{◌≡◌, Bool, ◌&&◌, None, vec_items, MatchBool, Option, MatchOption}
 use Rattle.glyph.specs.Parts.{held, inside}
 use Rattle.glyph.specs.declared.lists.GlyphRecord.{GlyphRecord}
 use Rattle.glyph.specs.declared.lists.Lists.{Lists}
@@ -9,9 +8,10 @@ use Rattle.glyph.specs.declared.view.GlyphView.{GlyphView}
 -- All parts of a glyph lie inside their lists.
 abbrev pub parts_inside : GlyphRecord → Lists → Bool
 parts_inside r ls =
-    both (inside r.ends (vec_items ls.ends))
-    (both (inside r.points (vec_items ls.points))
-    (both (inside r.components (vec_items ls.components)) (inside r.instructions (vec_items ls.instructions))))
+    inside r.ends (vec_items ls.ends)
+    && (inside r.points (vec_items ls.points)
+    && (inside r.components (vec_items ls.components)
+    && inside r.instructions (vec_items ls.instructions)))
 
 -- A view of a glyph shows what its record says, and its parts of the lists.
 pub record Viewed (r : GlyphRecord) (ls : Lists) (v : GlyphView) : Type 0 where

@@ -1,6 +1,5 @@
 -- Bytes in hexadecimal.
-use Rattle.std.specs.Prelude.{◌≡◌, ℕ, ◌+◌, ◌-◌, ◌*◌, Bool, cond, List, [], ◌∷◌, length, Some, None, vec_items, Option, Result, Vec, MatchResult, ◌==◌, nat_le, slice_index}
-use Rattle.read.specs.Tests.{both}
+use Rattle.std.specs.Prelude.{◌≡◌, ℕ, ◌+◌, ◌-◌, ◌*◌, Bool, cond, ◌&&◌, List, [], ◌∷◌, length, Some, None, vec_items, Option, Result, Vec, MatchResult, ◌==◌, nat_le, slice_index}
 use Rattle.std.specs.declared.alloc.Global.{Global}
 use Rattle.glyph_text.specs.declared.hex.HexError.{HexError}
 use Rattle.glyph_text.specs.declared.hex.HexError.TheVariants.{NoMemory, NotHex}
@@ -8,7 +7,7 @@ use Rattle.glyph_text.specs.declared.hex.HexError.TheVariants.{NoMemory, NotHex}
 -- 0 to 9 and a to f, by their codes.
 abbrev pub digit_said : ℕ → Option ℕ
 digit_said b =
-    cond (both (nat_le 48 b) (nat_le b 57)) (Some (b - 48)) (cond (both (nat_le 97 b) (nat_le b 102)) (Some (b - 97 + 10)) None)
+    cond (nat_le 48 b && nat_le b 57) (Some (b - 48)) (cond (nat_le 97 b && nat_le b 102) (Some (b - 97 + 10)) None)
 
 abbrev pub byte_of : Option ℕ → Option ℕ → Option ℕ
 byte_of None low = None
@@ -34,7 +33,7 @@ pairs (x ∷ y ∷ rest) = followed (byte_of (digit_said x) (digit_said y)) (pai
 
 -- The dash, which stands for no bytes.
 abbrev pub is_dash : List ℕ → Bool
-is_dash text = both (length text == 1) (slice_index text 0 == 45)
+is_dash text = (length text == 1) && (slice_index text 0 == 45)
 
 -- The bytes that a text spells, if it spells any: no text is no bytes.
 abbrev pub hex_said : List ℕ → Option (List ℕ)

@@ -13,7 +13,8 @@ use Rattle.glyph.specs.declared.lists.Lists.{Lists}
 use Rattle.glyph.specs.declared.lists.Part.{Part}
 use Rattle.glyph.specs.declared.lists.Point.{Point}
 use Rattle.glyph.specs.declared.places.Places.{Places}
-use Rattle.read.proofs.Tests.{both_from, both_true}
+use Rattle.std.proofs.lemmas.Bool.{and_from}
+use Rattle.read.proofs.Tests.{both_true}
 use Rattle.held.specs.Held.{ListsHold, TellsHeld}
 use Rattle.held.specs.Sound.{Sound}
 use Rattle.held.specs.Tests.{glyph_sound, held, lies, parts_lie, past, record_held, records_held}
@@ -85,10 +86,10 @@ module _ (ls : Lists) where
     -- The record of a sound glyph that lies there passes.
     record_passes : Sound g → record_held at (record_of at g) ls ≡ true
     record_passes s =
-        both_from (parts_lie at (record_of at g) ls) _
-        (both_from _ _ (lies_passes at.ends xe (ends_of g) there.ends)
-        (both_from _ _ (lies_passes at.points xp (points_of g) there.points)
-        (both_from _ _ (lies_passes at.components xc (components_of g) there.components) (lies_passes at.instructions xh (instructions_of g) there.instructions))))
+        and_from (parts_lie at (record_of at g) ls) _
+        (and_from _ _ (lies_passes at.ends xe (ends_of g) there.ends)
+        (and_from _ _ (lies_passes at.points xp (points_of g) there.points)
+        (and_from _ _ (lies_passes at.components xc (components_of g) there.components) (lies_passes at.instructions xh (instructions_of g) there.instructions))))
         (own (glyph_sound (kind_of g) (box_of g)) ∙ passes g s)
 
   -- One glyph more in front.
@@ -143,7 +144,7 @@ module _ (ls : Lists) where
   records_pass at (g ∷ gs) s h =
       let k = lie_less at g gs h in
       let more = records_pass (behind at g) gs s.1 k.1 in (
-        both_from (record_held at (record_of at g) ls) (records_held (behind at g) (records_of (behind at g) gs) ls) (record_passes at g k.0 s.0) more.0,
+        and_from (record_held at (record_of at g) ls) (records_held (behind at g) (records_of (behind at g) gs) ls) (record_passes at g k.0 s.0) more.0,
         ap (λ (x : Glyph). x ∷ map glyph_from (records_of (behind at g) gs)) (glyph_of_record at g k.0) ∙ ap (λ (x : List Glyph). g ∷ x) more.1,
       )
 
@@ -174,10 +175,10 @@ module _ (ls : Lists) where
         record {
           count = sym l;
           sound = all.2;
-          room = both_from (leb (length glyphs_in) (places rs)) _ (le-leb (length glyphs_in) (places rs) (omega arith))
-              (both_from (leb (length (flat_map ends_of glyphs_in)) (places xe)) _ (le-leb (length (flat_map ends_of glyphs_in)) (places xe) (omega (arith, lie.ends.0)))
-              (both_from (leb (length (flat_map points_of glyphs_in)) (places xp)) _ (le-leb (length (flat_map points_of glyphs_in)) (places xp) (omega (arith, lie.points.0)))
-              (both_from (leb (length (flat_map components_of glyphs_in)) (places xc)) _ (le-leb (length (flat_map components_of glyphs_in)) (places xc) (omega (arith, lie.components.0)))
+          room = and_from (leb (length glyphs_in) (places rs)) _ (le-leb (length glyphs_in) (places rs) (omega arith))
+              (and_from (leb (length (flat_map ends_of glyphs_in)) (places xe)) _ (le-leb (length (flat_map ends_of glyphs_in)) (places xe) (omega (arith, lie.ends.0)))
+              (and_from (leb (length (flat_map points_of glyphs_in)) (places xp)) _ (le-leb (length (flat_map points_of glyphs_in)) (places xp) (omega (arith, lie.points.0)))
+              (and_from (leb (length (flat_map components_of glyphs_in)) (places xc)) _ (le-leb (length (flat_map components_of glyphs_in)) (places xc) (omega (arith, lie.components.0)))
               (le-leb (length (flat_map instructions_of glyphs_in)) (places xh) (omega (arith, lie.instructions.0))))));
           records = ap (λ (k : ℕ). take k rs) l ∙ all.0;
           ends = lie.ends.1;
@@ -210,7 +211,7 @@ module _ (ls : Lists) where
       holds_passes =
           let room = room_for_all in
           let all = records_pass start gs h.sound room.1 in
-          both_from (leb n (places rs)) (records_held start (take n rs) ls) (le-leb n (places rs) room.0)
+          and_from (leb n (places rs)) (records_held start (take n rs) ls) (le-leb n (places rs) room.0)
           (ap (λ (x : List GlyphRecord). records_held start x ls) first_records ∙ all.0)
 
       -- Glyphs that are held are those of the first records.

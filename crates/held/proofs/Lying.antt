@@ -4,7 +4,8 @@ use Rattle.std.proofs.lemmas.List.{append_assoc, drop_at, drop-drop, length-appe
 use Rattle.glyph.specs.Parts.{end, held as cut}
 use Rattle.glyph.specs.Records.{part, places}
 use Rattle.glyph.specs.declared.lists.Part.{Part}
-use Rattle.read.proofs.Tests.{both_from, both_true}
+use Rattle.std.proofs.lemmas.Bool.{and_from}
+use Rattle.read.proofs.Tests.{both_true}
 use Rattle.held.specs.Tests.{lies}
 
 -- Values lie in a list from a place on, within the places that count.
@@ -55,4 +56,4 @@ module _ {A : Type 0} where
       (ap (λ (k : ℕ). part k p.len) s ∙ ap (part at) n, (omega arith, t))
 
   pub lies_passes : (at : ℕ) (xs ys : List A) → Lies at xs ys → lies at (part at (length ys)) xs ≡ true
-  lies_passes at xs ys h = both_from (eqb at at) (leb (at + length ys) (places xs)) (eq-eqb at at refl) (le-leb (at + length ys) (places xs) h.0)
+  lies_passes at xs ys h = and_from (eqb at at) (leb (at + length ys) (places xs)) (eq-eqb at at refl) (le-leb (at + length ys) (places xs) h.0)

@@ -13,8 +13,8 @@ use Rattle.glyph.specs.declared.component.Component.{Component}
 use Rattle.glyph.specs.declared.lists.GlyphKind.{GlyphKind}
 use Rattle.glyph.specs.declared.lists.GlyphKind.TheVariants.{Composite, Empty, Simple}
 use Rattle.glyph.specs.declared.lists.Point.{Point}
-use Rattle.read.proofs.Tests.{both_from, both_true}
-use Rattle.read.specs.Tests.{either}
+use Rattle.std.proofs.lemmas.Bool.{and_from}
+use Rattle.read.proofs.Tests.{both_true}
 use Rattle.held.specs.Sound.{component_sound, Sound, StepsInRange}
 use Rattle.held.specs.Tests.{box_zero, chained_on, glyph_sound, is_zero, none, outline_sound, step_fits, steps_fit}
 
@@ -28,8 +28,8 @@ steps_ok last (p ∷ ps) h =
 steps_at : (last : Point) (ps : List Point) → StepsInRange last ps → steps_fit last ps ≡ true
 steps_at last [] h = refl
 steps_at last (p ∷ ps) h =
-    both_from (step_fits last p) (steps_fit p ps)
-    (both_from (placed (p.x -ℤ last.x)) (placed (p.y -ℤ last.y)) (placed_at (p.x -ℤ last.x) h.0) (placed_at (p.y -ℤ last.y) h.1))
+    and_from (step_fits last p) (steps_fit p ps)
+    (and_from (placed (p.x -ℤ last.x)) (placed (p.y -ℤ last.y)) (placed_at (p.x -ℤ last.x) h.0) (placed_at (p.y -ℤ last.y) h.1))
     (steps_at p ps h.2)
 
 chained_ok : (cs : List Component) → chained_on true cs ≡ true → Chained cs
@@ -43,7 +43,7 @@ chained_at : (cs : List Component) → Chained cs → chained_on true cs ≡ tru
 chained_at [] h = absurd h
 chained_at (c ∷ []) h = not_from_false (has c.flags 0x0020) h
 chained_at (c ∷ (d ∷ cs)) h =
-    both_from (has c.flags 0x0020) (chained_on (has d.flags 0x0020) cs) h.0 (chained_at (d ∷ cs) h.1)
+    and_from (has c.flags 0x0020) (chained_on (has d.flags 0x0020) cs) h.0 (chained_at (d ∷ cs) h.1)
 
 abbrev Fits : Component → Type 0
 Fits c = component_sound c ≡ true
@@ -63,7 +63,7 @@ each_at (c ∷ cs) h = rw h.0 (each_at cs h.1)
 abbrev marks : Component → Bool
 marks c = has c.flags 0x0100
 
-or_either : (a b c : Bool) → b ≡ c → (a || b) ≡ either a c
+or_either : (a b c : Bool) → b ≡ c → (a || b) ≡ (a || c)
 or_either true b c e = refl
 or_either false b c e = e
 
@@ -74,11 +74,11 @@ any_marked (c ∷ cs) = or_either (marks c) (list_any marks cs) (marked cs) (any
 none_ok : {A : Type 0} (xs : List A) → none xs ≡ true → [] ≡ xs
 none_ok xs h = sym (nil_from_length xs (eqb-true (length xs) 0 h))
 
-unmarked_ok : (b : Bool) (hs : List ℕ) → either b (none hs) ≡ true → b ≡ false → hs ≡ []
+unmarked_ok : (b : Bool) (hs : List ℕ) → (b || none hs) ≡ true → b ≡ false → hs ≡ []
 unmarked_ok true hs h e = let z : ◌≡◌ {A = ℕ} 0 1 = cc in absurd (omega arith)
 unmarked_ok false hs h e = sym (none_ok hs h)
 
-unmarked_at : (b : Bool) (hs : List ℕ) → (b ≡ false → hs ≡ []) → either b (none hs) ≡ true
+unmarked_at : (b : Bool) (hs : List ℕ) → (b ≡ false → hs ≡ []) → (b || none hs) ≡ true
 unmarked_at true hs h = refl
 unmarked_at false hs h = ap none (h refl)
 
@@ -153,7 +153,7 @@ passed Composite b es ps cs hs h =
     let h1 = both_true (none ps) _ h0.1 in
     let h2 = both_true (chained_on true cs) _ h1.1 in
     let h3 = both_true (list_all component_sound cs) _ h2.1 in
-    let h4 = both_true (leb (length hs) 65535) (either (list_any marks cs) (none hs)) h3.1 in
+    let h4 = both_true (leb (length hs) 65535) (list_any marks cs || none hs) h3.1 in
     record {
       kind_is = refl;
       box_is = refl;
@@ -173,14 +173,14 @@ passed Composite b es ps cs hs h =
 pub passes : (g : Glyph) → Sound g → glyph_sound (kind_of g) (box_of g) (ends_of g) (points_of g) (components_of g) (instructions_of g) ≡ true
 passes empty s = refl
 passes (simple b es ps hs) s =
-    both_from (outline_sound es ps) (leb (length hs) 65535)
-    (both_from (leb (length es) 32767) _ (le-leb (length es) 32767 s.contours)
-    (both_from (eqb (length ps) (points_in es)) (steps_fit origin ps) (eq-eqb (length ps) (points_in es) s.as_many) (steps_at origin ps s.steps)))
+    and_from (outline_sound es ps) (leb (length hs) 65535)
+    (and_from (leb (length es) 32767) _ (le-leb (length es) 32767 s.contours)
+    (and_from (eqb (length ps) (points_in es)) (steps_fit origin ps) (eq-eqb (length ps) (points_in es) s.as_many) (steps_at origin ps s.steps)))
     (le-leb (length hs) 65535 s.instructions)
 passes (composite b cs hs) s =
-    both_from (chained_on true cs) _ (chained_at cs s.chained)
-    (both_from (list_all component_sound cs) _ (each_at cs s.each)
-    (both_from (leb (length hs) 65535) (either (list_any marks cs) (none hs)) (le-leb (length hs) 65535 s.instructions) (unmarked_at (list_any marks cs) hs (λ e. s.unmarked (sym (any_marked cs) ∙ e)))))
+    and_from (chained_on true cs) _ (chained_at cs s.chained)
+    (and_from (list_all component_sound cs) _ (each_at cs s.each)
+    (and_from (leb (length hs) 65535) (list_any marks cs || none hs) (le-leb (length hs) 65535 s.instructions) (unmarked_at (list_any marks cs) hs (λ e. s.unmarked (sym (any_marked cs) ∙ e)))))
 
 pub glyph_again : (g : Glyph) → glyph_by (kind_of g) (box_of g) (ends_of g) (points_of g) (components_of g) (instructions_of g) ≡ g
 glyph_again empty = refl

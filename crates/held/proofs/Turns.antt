@@ -1,14 +1,13 @@
 -- A test of a list, element by element: what is left of the list says what the whole says.
-use Rattle.std.proofs.Common.{◌≡◌, ℕ, ◌+◌, ◌<◌, ◌≤◌, Bool, true, false, List, [], ◌∷◌, length, get_or, drop, sym, ap, ◌∙◌}
+use Rattle.std.proofs.Common.{◌≡◌, ℕ, ◌+◌, ◌<◌, ◌≤◌, Bool, true, false, ◌&&◌, List, [], ◌∷◌, length, get_or, drop, sym, ap, ◌∙◌}
 use Rattle.std.proofs.lemmas.List.{at_drop_all, at_drop_more}
-use Rattle.read.specs.Tests.{both}
 
 module _
     {X : Type 0}
     (F : List X → Bool)
     (test : X → Bool)
     (rest : X → List X → Bool)
-    (turn : (x : X) (xs : List X) → F (x ∷ xs) ≡ both (test x) (rest x xs))
+    (turn : (x : X) (xs : List X) → F (x ∷ xs) ≡ (test x && rest x xs))
     (xs : List X)
     (i : ℕ)
     (d : X)
@@ -16,11 +15,11 @@ module _
     (whole : Bool)
     (inv : whole ≡ F (drop i xs))
   where
-    at_turn : (b : Bool) → b ≡ test (get_or xs i d) → whole ≡ both b (rest (get_or xs i d) (drop (i + 1) xs))
+    at_turn : (b : Bool) → b ≡ test (get_or xs i d) → whole ≡ (b && rest (get_or xs i d) (drop (i + 1) xs))
     at_turn b e =
         inv
         ∙ (at_drop_more F xs i d low
-        ∙ (turn (get_or xs i d) (drop (i + 1) xs) ∙ ap (λ (t : Bool). both t (rest (get_or xs i d) (drop (i + 1) xs))) (sym e)))
+        ∙ (turn (get_or xs i d) (drop (i + 1) xs) ∙ ap (λ (t : Bool). (t && rest (get_or xs i d) (drop (i + 1) xs))) (sym e)))
 
     pub fails : false ≡ test (get_or xs i d) → false ≡ whole
     fails e = sym (at_turn false e)

@@ -1,5 +1,5 @@
 -- The rules for a glyph.
-use Rattle.std.specs.Prelude.{◌≡◌, ℕ, ◌≤◌, Bool, true, false, not, List, [], ◌∷◌, length, ◌-ℤ◌, ◌==◌, bit_and}
+use Rattle.std.specs.Prelude.{◌≡◌, ℕ, ◌≤◌, Bool, true, false, not, ◌&&◌, List, [], ◌∷◌, length, ◌-ℤ◌, ◌==◌, bit_and}
 use Rattle.std.specs.List.{AllByRecursion}
 use Rattle.composite.specs.Chains.{Chained, marked}
 use Rattle.composite.specs.Components.{has}
@@ -11,7 +11,6 @@ use Rattle.glyph.specs.declared.component.CompositeGlyphArgument.TheVariants.{I1
 use Rattle.glyph.specs.declared.component.CompositeGlyphScale.{CompositeGlyphScale}
 use Rattle.glyph.specs.declared.component.CompositeGlyphScale.TheVariants.{Matrix, None, Scale, XY}
 use Rattle.glyph.specs.declared.lists.Point.{Point}
-use Rattle.read.specs.Tests.{both}
 
 -- Each step from the point before lies in -32768..32767 on both axes.
 abbrev pub StepsInRange : Point → List Point → Type 0
@@ -28,25 +27,27 @@ pub record SoundSimple (ends : List ℕ) (points : List Point) (hints : List ℕ
 
 -- Arguments are words with 0001, else bytes; signed with 0002, else unsigned.
 abbrev pub argument_fits : ℕ → CompositeGlyphArgument → Bool
-argument_fits flags (U8 n) = both (not (has flags 0x0001)) (not (has flags 0x0002))
-argument_fits flags (I8 z) = both (not (has flags 0x0001)) (has flags 0x0002)
-argument_fits flags (U16 n) = both (has flags 0x0001) (not (has flags 0x0002))
-argument_fits flags (I16 z) = both (has flags 0x0001) (has flags 0x0002)
+argument_fits flags (U8 n) = not (has flags 0x0001) && not (has flags 0x0002)
+argument_fits flags (I8 z) = not (has flags 0x0001) && has flags 0x0002
+argument_fits flags (U16 n) = has flags 0x0001 && not (has flags 0x0002)
+argument_fits flags (I16 z) = has flags 0x0001 && has flags 0x0002
 
 -- One scale with 0008, else two with 0040, else four with 0080, else none.
 abbrev pub scale_fits : ℕ → CompositeGlyphScale → Bool
 scale_fits flags None =
-    both (not (has flags 0x0008)) (both (not (has flags 0x0040)) (not (has flags 0x0080)))
+    not (has flags 0x0008) && (not (has flags 0x0040) && not (has flags 0x0080))
 scale_fits flags (Scale s) = has flags 0x0008
-scale_fits flags (XY x y) = both (not (has flags 0x0008)) (has flags 0x0040)
+scale_fits flags (XY x y) = not (has flags 0x0008) && has flags 0x0040
 scale_fits flags (Matrix xx xy yx yy) =
-    both (not (has flags 0x0008)) (both (not (has flags 0x0040)) (has flags 0x0080))
+    not (has flags 0x0008) && (not (has flags 0x0040) && has flags 0x0080)
 
 -- No bit is set outside 1FEF, and arguments and scale are of the kinds that the flags call for.
 abbrev pub component_sound : Component → Bool
 component_sound c =
-    both (bit_and c.flags 0x1fef == c.flags)
-    (both (argument_fits c.flags c.argument1) (both (argument_fits c.flags c.argument2) (scale_fits c.flags c.scale)))
+    (bit_and c.flags 0x1fef == c.flags)
+    && (argument_fits c.flags c.argument1
+    && (argument_fits c.flags c.argument2
+    && scale_fits c.flags c.scale))
 
 pub record SoundComposite (parts : List Component) (hints : List ℕ) : Type 0 where
   pub chained : Chained parts

@@ -1,8 +1,9 @@
 -- What a summary of records says of the glyphs.
-use Rattle.std.proofs.Common.{◌≡◌, ℕ, suc, ◌+◌, cond, List, [], ◌∷◌, length, sum_by, count_by, refl, ap, ◌∙◌, arith}
+use Rattle.std.proofs.Common.{◌≡◌, ℕ, ◌+◌, cond, List, [], ◌∷◌, length, sum_by, count_by, refl, ap, ◌∙◌, arith}
 use Rattle.std.proofs.lemmas.List.{length-append}
 use Rattle.std.proofs.lemmas.List.Sums.{sum_by-cons}
 use Rattle.std.specs.List.{flat_map}
+use Rattle.glyph.proofs.Records.{records_length}
 use Rattle.glyph.specs.Glyphs.{components_of, ends_of, Glyph, instructions_of, points_of}
 use Rattle.glyph.specs.Records.{behind, record_of, records_of, start}
 use Rattle.glyph.specs.declared.lists.GlyphKind.{GlyphKind}
@@ -30,10 +31,6 @@ kinds_all (r ∷ rs) =
       kinds_all rs,
     )
 
-length_records : (at : Places) (gs : List Glyph) → length (records_of at gs) ≡ length gs
-length_records at [] = refl
-length_records at (g ∷ gs) = ap suc (length_records (behind at g) gs)
-
 -- A part of every record is as long as a list of its glyph, so together they are as long as these lists joined.
 sum_records : {A : Type 0} (len : GlyphRecord → ℕ) (list : Glyph → List A) → ((at : Places) (g : Glyph) → len (record_of at g) ≡ length (list g)) → (at : Places) (gs : List Glyph) → sum_by len (records_of at gs) ≡ length (flat_map list gs)
 sum_records len list same at [] = refl
@@ -58,7 +55,7 @@ summed rs s empty simple composite ends points components instructions =
       instructions = instructions;
       least = λ gs same.
           record {
-            records = omega (arith, empty, simple, composite, kinds_all rs, ap length same, length_records start gs);
+            records = omega (arith, empty, simple, composite, kinds_all rs, ap length same, records_length start gs);
             ends = ends ∙ (ap (sum_by (λ r. r.ends.len)) same ∙ sum_records (λ r. r.ends.len) ends_of (λ at g. refl) start gs);
             points = points ∙ (ap (sum_by (λ r. r.points.len)) same ∙ sum_records (λ r. r.points.len) points_of (λ at g. refl) start gs);
             components = components ∙ (ap (sum_by (λ r. r.components.len)) same ∙ sum_records (λ r. r.components.len) components_of (λ at g. refl) start gs);

@@ -1,7 +1,6 @@
 -- The test that a table of rows keeps the rule.
-use Rattle.std.specs.Prelude.{ℕ, suc, Bool, true, false, List, [], ◌∷◌, ◌==◌}
+use Rattle.std.specs.Prelude.{ℕ, suc, Bool, true, false, ◌&&◌, List, [], ◌∷◌, ◌==◌}
 use Rattle.lut.specs.Rows.{row_of}
-use Rattle.read.specs.Tests.{both}
 use Rattle.lut.specs.declared.table.XYTriplet.{XYTriplet}
 
 abbrev pub alike : Bool → Bool → Bool
@@ -11,13 +10,15 @@ alike false false = true
 
 abbrev pub same_row : XYTriplet → XYTriplet → Bool
 same_row a b =
-    both (a.byte_count == b.byte_count)
-    (both (a.x_bits == b.x_bits)
-    (both (a.y_bits == b.y_bits)
-    (both (a.delta_x == b.delta_x)
-    (both (a.delta_y == b.delta_y) (both (alike a.x_is_negative b.x_is_negative) (alike a.y_is_negative b.y_is_negative))))))
+    (a.byte_count == b.byte_count)
+    && ((a.x_bits == b.x_bits)
+    && ((a.y_bits == b.y_bits)
+    && ((a.delta_x == b.delta_x)
+    && ((a.delta_y == b.delta_y)
+    && (alike a.x_is_negative b.x_is_negative
+    && alike a.y_is_negative b.y_is_negative)))))
 
 -- Each row from place `i` on is the one that the rule gives.
 abbrev pub ruled : ℕ → List XYTriplet → Bool
 ruled i [] = true
-ruled i (t ∷ ts) = both (same_row t (row_of i)) (ruled (suc i) ts)
+ruled i (t ∷ ts) = same_row t (row_of i) && ruled (suc i) ts

@@ -1,6 +1,5 @@
 -- How a flag and the bytes behind it say a pair of steps. The low seven bits of the flag are the row.
-use Rattle.std.specs.Prelude.{◌≡◌, ℕ, ◌+◌, ◌-◌, ◌*◌, ◌/◌, ◌%◌, Bool, false, cond, List, [], ◌∷◌, length, take, drop, ℤ, pos, negsuc, neg_ℤ, Ok, Err, MatchBool, Result, ◌==◌, nat_le, nat_lt, slice_index}
-use Rattle.read.specs.Tests.{both}
+use Rattle.std.specs.Prelude.{◌≡◌, ℕ, ◌+◌, ◌-◌, ◌*◌, ◌/◌, ◌%◌, Bool, false, cond, ◌&&◌, List, [], ◌∷◌, length, take, drop, ℤ, pos, negsuc, neg_ℤ, Ok, Err, MatchBool, Result, ◌==◌, nat_le, nat_lt, slice_index}
 use Rattle.read.specs.declared.error.ParseError.{ParseError}
 use Rattle.read.specs.declared.error.ParseError.TheVariants.{BadEof, BadValue}
 
@@ -76,7 +75,7 @@ step_fits falls size = nat_le size (cond falls 32768 32767)
 -- Two steps by direction and size, if both are in range.
 abbrev pub pair_by : Bool → ℕ → Bool → ℕ → Result (ℤ × ℤ) ParseError
 pair_by x_down x y_down y =
-    cond (both (step_fits x_down x) (step_fits y_down y)) (Ok (step x_down x, step y_down y)) (Err BadValue)
+    cond (step_fits x_down x && step_fits y_down y) (Ok (step x_down x, step y_down y)) (Err BadValue)
 
 -- The pair of steps that the bytes behind a flag of row `r` say.
 abbrev pub steps_by : Group → ℕ → List ℕ → Result (ℤ × ℤ) ParseError

@@ -3,4 +3,3 @@ pub mod Arrays
 pub mod Bytes
 pub mod Errors
 pub mod Reading
-pub mod Tests

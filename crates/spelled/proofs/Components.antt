@@ -1,11 +1,11 @@
 -- Components, one behind the other.
-use Rattle.std.proofs.Common.{◌≡◌, ℕ, zero, suc, ◌+◌, ◌<◌, ◌≤◌, Bool, true, false, cond, List, [], ◌∷◌, ◌++◌, length, take, drop, Ok, sym, refl, ap, ◌∙◌, arith}
+use Rattle.std.proofs.Common.{◌≡◌, ℕ, zero, suc, ◌+◌, ◌<◌, ◌≤◌, Bool, true, false, cond, ◌||◌, List, [], ◌∷◌, ◌++◌, length, take, drop, Ok, sym, refl, ap, ◌∙◌, arith}
+use Rattle.std.proofs.Math.Bool.{or-false, or_assoc}
 use Rattle.std.proofs.lemmas.List.{append_assoc, append-nil, drop-append-le, length-append, length-drop, take-append-le}
 use Rattle.read.proofs.Thens.{then_accepted}
 use Rattle.composite.specs.Components.{argument_size, component_by, component_said, component_size, flags_said, has, scale_size}
 use Rattle.glyph.specs.declared.component.Component.{Component}
 use Rattle.read.specs.Answers.{front}
-use Rattle.read.specs.Tests.{either}
 use Rattle.unpack.proofs.Components.{six}
 use Rattle.unpack.specs.Composites.{component, components_said}
 use Rattle.unpack.specs.Spelled.{Joins, SpellsComponent}
@@ -65,14 +65,6 @@ component_at c p rest h =
     let e : component (p ++ rest) ≡ Ok (component_said (p ++ rest), rest) = rw r in
     e ∙ ap (λ (x : Component). Ok (x, rest)) (same_component p rest l ∙ h.1)
 
-either_false : (a : Bool) → either a false ≡ a
-either_false true = refl
-either_false false = refl
-
-either_assoc : (a b c : Bool) → either (either a b) c ≡ either a (either b c)
-either_assoc true b c = refl
-either_assoc false b c = refl
-
 chain : (c : Component) (cs : List Component) → has c.flags 0x0020 ≡ true → Chained cs → Chained (c ∷ cs)
 chain c [] m h = absurd h
 chain c (d ∷ cs) m h = (m, h)
@@ -80,7 +72,7 @@ chain c (d ∷ cs) m h = (m, h)
 -- An answer has the components in `cs` and behind them those that the front of a stream spells.
 abbrev pub Found : List Component → Bool → List ℕ → List Component × Bool × List ℕ → Type 0
 Found cs mark bs q =
-    (new : List Component) × (p : List ℕ) × (q.0 ≡ cs ++ new) × (bs ≡ p ++ q.2) × Joins SpellsComponent new p × Chained new × (q.1 ≡ either mark (marked new))
+    (new : List Component) × (p : List ℕ) × (q.0 ≡ cs ++ new) × (bs ≡ p ++ q.2) × Joins SpellsComponent new p × Chained new × (q.1 ≡ (mark || marked new))
 
 pub components_ok : (n : ℕ) (cs : List Component) (mark : Bool) (bs : List ℕ) (q : List Component × Bool × List ℕ) → components_said n cs mark bs ≡ Ok q → Found cs mark bs q
 components_ok zero cs mark bs q e = let z : ◌≡◌ {A = ℕ} 0 1 = cc in absurd (omega arith)
@@ -88,14 +80,14 @@ components_ok (suc n) cs mark bs q e =
     let f =
     then_accepted (component bs)
     (λ (c : Component × List ℕ).
-    cond (has c.0.flags 0x0020) (components_said n (cs ++ c.0 ∷ []) (either mark (has c.0.flags 0x0100)) c.1)
-    (Ok (cs ++ c.0 ∷ [], either mark (has c.0.flags 0x0100), c.1)))
+    cond (has c.0.flags 0x0020) (components_said n (cs ++ c.0 ∷ []) (mark || has c.0.flags 0x0100) c.1)
+    (Ok (cs ++ c.0 ∷ [], (mark || has c.0.flags 0x0100), c.1)))
     q e
     in
     let g = component_ok bs f.0 f.1 in
-    by f.0.0 f.0.1 g.0 g.1 g.2 (λ h. components_ok n (cs ++ f.0.0 ∷ []) (either mark (has f.0.0.flags 0x0100)) f.0.1 q h) (has f.0.0.flags 0x0020) refl f.2
+    by f.0.0 f.0.1 g.0 g.1 g.2 (λ h. components_ok n (cs ++ f.0.0 ∷ []) (mark || has f.0.0.flags 0x0100) f.0.1 q h) (has f.0.0.flags 0x0020) refl f.2
   where
-    by : (c : Component) (rest p : List ℕ) → bs ≡ p ++ rest → SpellsComponent c p → (components_said n (cs ++ c ∷ []) (either mark (has c.flags 0x0100)) rest ≡ Ok q → Found (cs ++ c ∷ []) (either mark (has c.flags 0x0100)) rest q) → (b : Bool) → has c.flags 0x0020 ≡ b → cond b (components_said n (cs ++ c ∷ []) (either mark (has c.flags 0x0100)) rest) (Ok (cs ++ c ∷ [], either mark (has c.flags 0x0100), rest)) ≡ Ok q → Found cs mark bs q
+    by : (c : Component) (rest p : List ℕ) → bs ≡ p ++ rest → SpellsComponent c p → (components_said n (cs ++ c ∷ []) (mark || has c.flags 0x0100) rest ≡ Ok q → Found (cs ++ c ∷ []) (mark || has c.flags 0x0100) rest q) → (b : Bool) → has c.flags 0x0020 ≡ b → cond b (components_said n (cs ++ c ∷ []) (mark || has c.flags 0x0100) rest) (Ok (cs ++ c ∷ [], (mark || has c.flags 0x0100), rest)) ≡ Ok q → Found cs mark bs q
     by c rest p w s again true m h =
         let i = again h in (
           c ∷ i.0,
@@ -104,12 +96,12 @@ components_ok (suc n) cs mark bs q e =
           w ∙ (ap (λ (x : List ℕ). p ++ x) i.3 ∙ sym (append_assoc p i.1 q.2)),
           (p, i.1, refl, s, i.4),
           chain c i.0 m i.5,
-          i.6 ∙ either_assoc mark (has c.flags 0x0100) (marked i.0),
+          i.6 ∙ or_assoc mark (has c.flags 0x0100) (marked i.0),
         )
     by c rest p w s again false m h =
-        let t : (cs ++ c ∷ [], either mark (has c.flags 0x0100), rest) ≡ q = cc in
+        let t : (cs ++ c ∷ [], (mark || has c.flags 0x0100), rest) ≡ q = cc in
         let t0 : cs ++ c ∷ [] ≡ q.0 = ap (λ (x : List Component × Bool × List ℕ). x.0) t in
-        let t1 : either mark (has c.flags 0x0100) ≡ q.1 = ap (λ (x : List Component × Bool × List ℕ). x.1) t in
+        let t1 : (mark || has c.flags 0x0100) ≡ q.1 = ap (λ (x : List Component × Bool × List ℕ). x.1) t in
         let t2 : rest ≡ q.2 = ap (λ (x : List Component × Bool × List ℕ). x.2) t in (
           c ∷ [],
           p,
@@ -117,18 +109,18 @@ components_ok (suc n) cs mark bs q e =
           w ∙ ap (λ (x : List ℕ). p ++ x) t2,
           (p, [], sym (append-nil p), s, refl),
           m,
-          sym t1 ∙ ap (either mark) (sym (either_false (has c.flags 0x0100))),
+          sym t1 ∙ ap (λ (x : Bool). mark || x) (sym (or-false (has c.flags 0x0100))),
         )
 
 -- As many are looked for as there are bytes: none is missed.
-pub components_at : (new : List Component) (n : ℕ) (cs : List Component) (mark : Bool) (p rest : List ℕ) → length p < n → Joins SpellsComponent new p → Chained new → components_said n cs mark (p ++ rest) ≡ Ok (cs ++ new, either mark (marked new), rest)
+pub components_at : (new : List Component) (n : ℕ) (cs : List Component) (mark : Bool) (p rest : List ℕ) → length p < n → Joins SpellsComponent new p → Chained new → components_said n cs mark (p ++ rest) ≡ Ok (cs ++ new, (mark || marked new), rest)
 components_at [] n cs mark p rest l h k = absurd k
 components_at (c ∷ new) zero cs mark p rest l h k = absurd (omega arith)
 components_at (c ∷ []) (suc n) cs mark p rest l h k =
     let e : p ≡ h.0 = h.2 ∙ (ap (λ (x : List ℕ). h.0 ++ x) h.4 ∙ append-nil h.0) in
     let r : component (p ++ rest) ≡ Ok (c, rest) = ap (λ (x : List ℕ). component (x ++ rest)) e ∙ component_at c h.0 rest h.3 in
     let m : has c.flags 0x0020 ≡ false = k in
-    rw (r, m) (ap (λ (x : Bool). Ok (cs ++ c ∷ [], either mark x, rest)) (sym (either_false (has c.flags 0x0100))))
+    rw (r, m) (ap (λ (x : Bool). Ok (cs ++ c ∷ [], (mark || x), rest)) (sym (or-false (has c.flags 0x0100))))
 components_at (c ∷ (d ∷ new)) (suc n) cs mark p rest l h k =
     let w : p ++ rest ≡ h.0 ++ (h.1 ++ rest) = ap (λ (x : List ℕ). x ++ rest) h.2 ∙ append_assoc h.0 h.1 rest in
     let r : component (p ++ rest) ≡ Ok (c, h.1 ++ rest) = ap component w ∙ component_at c h.0 (h.1 ++ rest) h.3 in
@@ -136,9 +128,9 @@ components_at (c ∷ (d ∷ new)) (suc n) cs mark p rest l h k =
     let s = six (flags_said h.0) in
     let z = ap length h.2 ∙ length-append h.0 h.1 in
     let short : length h.1 < n = omega (arith, h.3.0) in
-    let i = components_at (d ∷ new) n (cs ++ c ∷ []) (either mark (has c.flags 0x0100)) h.1 rest short h.4 k.1 in
+    let i = components_at (d ∷ new) n (cs ++ c ∷ []) (mark || has c.flags 0x0100) h.1 rest short h.4 k.1 in
     let j =
-    ap (λ (x : List Component). Ok (x, either (either mark (has c.flags 0x0100)) (marked (d ∷ new)), rest)) (append_assoc cs (c ∷ []) (d ∷ new))
-    ∙ ap (λ (x : Bool). Ok (cs ++ c ∷ (d ∷ new), x, rest)) (either_assoc mark (has c.flags 0x0100) (marked (d ∷ new)))
+    ap (λ (x : List Component). Ok (x, ((mark || has c.flags 0x0100) || marked (d ∷ new)), rest)) (append_assoc cs (c ∷ []) (d ∷ new))
+    ∙ ap (λ (x : Bool). Ok (cs ++ c ∷ (d ∷ new), x, rest)) (or_assoc mark (has c.flags 0x0100) (marked (d ∷ new)))
     in
     rw (r, m) (i ∙ j)

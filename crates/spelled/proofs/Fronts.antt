@@ -1,11 +1,10 @@
 -- What the first bytes of a stream say, and what is left behind them.
-use Rattle.std.proofs.Common.{◌≡◌, ℕ, ◌<◌, ◌≤◌, Bool, true, false, cond, eqb, leb, List, [], ◌∷◌, ◌++◌, length, get_or, take, drop, Ok, Err, Result, sym, refl, ap, ◌∙◌, arith}
+use Rattle.std.proofs.Common.{◌≡◌, ℕ, ◌<◌, ◌≤◌, Bool, true, false, cond, ◌&&◌, eqb, leb, List, [], ◌∷◌, ◌++◌, length, get_or, take, drop, Ok, Err, Result, sym, refl, ap, ◌∙◌, arith}
 use Rattle.std.proofs.lemmas.List.{drop_at, length-append, length-take-le, take-append-drop, take_at}
 use Rattle.std.proofs.lemmas.Bool.{le-leb, leb-true}
 use Rattle.read.proofs.Thens.{test_passed, then_accepted}
 use Rattle.read.proofs.Tests.{both_true}
 use Rattle.read.specs.Answers.{front}
-use Rattle.read.specs.Tests.{both}
 use Rattle.read.specs.declared.error.ParseError.TheVariants.{BadEof}
 use Rattle.unpack.specs.Outlines.{packed}
 use Rattle.woff2.specs.Packed.{packed_said, packed_size, Packs}
@@ -15,9 +14,9 @@ pub fails : {A E : Type 0} (b : Bool) (r : Result A E) (d : E) (y : A) → cond 
 fails true r d y e = let z : ◌≡◌ {A = ℕ} 0 1 = cc in absurd (omega arith)
 fails false r d y e = (refl, e)
 
-pub passes_both : {A E : Type 0} (a b : Bool) (r : Result A E) (d : E) (y : A) → cond (both a b) r (Err d) ≡ Ok y → (a ≡ true) × (b ≡ true) × (r ≡ Ok y)
+pub passes_both : {A E : Type 0} (a b : Bool) (r : Result A E) (d : E) (y : A) → cond (a && b) r (Err d) ≡ Ok y → (a ≡ true) × (b ≡ true) × (r ≡ Ok y)
 passes_both a b r d y e =
-    let f = test_passed (both a b) r d y e in
+    let f = test_passed (a && b) r d y e in
     let g = both_true a b f.0 in
     (g.0, g.1, f.1)
 

@@ -1,11 +1,10 @@
 -- Flags and steps, and the points that they lead to.
-use Rattle.std.proofs.Common.{◌≡◌, ℕ, suc, ◌%◌, cond, List, [], ◌∷◌, ◌++◌, length, ℤ, ◌+ℤ◌, Ok, Err, sym, refl, ap, ◌∙◌}
+use Rattle.std.proofs.Common.{◌≡◌, ℕ, suc, ◌%◌, cond, ◌&&◌, List, [], ◌∷◌, ◌++◌, length, ℤ, ◌+ℤ◌, Ok, Err, sym, refl, ap, ◌∙◌}
 use Rattle.std.proofs.lemmas.List.{append_assoc, append-nil}
 use Rattle.read.proofs.Thens.{then_accepted}
 use Rattle.glyph.specs.declared.lists.Point.{Point}
 use Rattle.lut.specs.Triplets.{bytes_in, group_of, steps_said}
 use Rattle.read.specs.Answers.{front, then}
-use Rattle.read.specs.Tests.{both}
 use Rattle.read.specs.declared.error.ParseError.TheVariants.{BadValue}
 use Rattle.unpack.specs.Outlines.{point, point_said, points_said, steps}
 use Rattle.glyph.proofs.Outlines.{placed_at, placed_ok}
@@ -33,7 +32,7 @@ point_ok last f bs q e =
     let g =
     then_accepted (steps (f % 128) bs)
     (λ (s : (ℤ × ℤ) × List ℕ).
-    cond (both (placed (last.x +ℤ s.0.0)) (placed (last.y +ℤ s.0.1)))
+    cond (placed (last.x +ℤ s.0.0) && placed (last.y +ℤ s.0.1))
     (Ok (point (last.x +ℤ s.0.0) (last.y +ℤ s.0.1) f, s.1)) (Err BadValue))
     q e
     in

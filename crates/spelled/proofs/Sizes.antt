@@ -1,9 +1,8 @@
 -- The sizes of contours, and the ends that they say.
-use Rattle.std.proofs.Common.{◌≡◌, ℕ, zero, suc, ◌+◌, ◌-◌, ◌<◌, ◌≤◌, cond, ltb, leb, List, [], ◌∷◌, ◌++◌, length, Ok, Err, sym, refl, ap, ◌∙◌, subst, arith}
+use Rattle.std.proofs.Common.{◌≡◌, ℕ, zero, suc, ◌+◌, ◌-◌, ◌<◌, ◌≤◌, cond, ◌&&◌, ltb, leb, List, [], ◌∷◌, ◌++◌, length, Ok, Err, sym, refl, ap, ◌∙◌, subst, arith}
 use Rattle.std.proofs.lemmas.List.{append_assoc, append-nil}
 use Rattle.std.proofs.lemmas.Bool.{le-leb, leb-true, lt-ltb, ltb-true}
 use Rattle.read.proofs.Thens.{then_accepted}
-use Rattle.read.specs.Tests.{both}
 use Rattle.read.specs.declared.error.ParseError.TheVariants.{BadValue}
 use Rattle.unpack.specs.Outlines.{ends_said, packed}
 use Rattle.unpack.specs.Spelled.{Sizes}
@@ -35,7 +34,7 @@ ends_ok (suc c) es sum bs q e =
     let f =
     then_accepted (packed bs)
     (λ (p : ℕ × List ℕ).
-    cond (both (ltb 0 (sum + p.0)) (leb (sum + p.0) 65535)) (ends_said c (es ++ (sum + p.0 - 1) ∷ []) (sum + p.0) p.1)
+    cond (ltb 0 (sum + p.0) && leb (sum + p.0) 65535) (ends_said c (es ++ (sum + p.0 - 1) ∷ []) (sum + p.0) p.1)
     (Err BadValue))
     q e
     in

@@ -1,9 +1,8 @@
 -- Steps along each axis, and the points that they lead to.
-use Rattle.std.proofs.Common.{◌≡◌, ℕ, cond, List, [], ◌∷◌, ◌++◌, map, ℤ, ◌+ℤ◌, Ok, Err, sym, refl, ap, ◌∙◌, subst}
+use Rattle.std.proofs.Common.{◌≡◌, ℕ, cond, ◌&&◌, List, [], ◌∷◌, ◌++◌, map, ℤ, ◌+ℤ◌, Ok, Err, sym, refl, ap, ◌∙◌, subst}
 use Rattle.std.proofs.lemmas.List.{append_assoc, append-nil}
 use Rattle.read.proofs.Thens.{then_accepted}
 use Rattle.glyph.specs.declared.lists.Point.{Point}
-use Rattle.read.specs.Tests.{both}
 use Rattle.read.specs.declared.error.ParseError.TheVariants.{BadValue}
 use Rattle.spelled.proofs.Fronts.{passes_both}
 use Rattle.glyph.proofs.Outlines.{placed_at, placed_ok}
@@ -67,7 +66,7 @@ position_ok last f dx bs q e =
     let g =
     then_accepted (field_said (y_step_size f) (y_step_said f) bs)
     (λ (p : ℤ × List ℕ).
-    cond (both (placed (last.x +ℤ dx)) (placed (last.y +ℤ p.0))) (Ok (next_point last f dx p.0, p.1))
+    cond (placed (last.x +ℤ dx) && placed (last.y +ℤ p.0)) (Ok (next_point last f dx p.0, p.1))
     (Err BadValue))
     q e
     in

@@ -1,5 +1,5 @@
 -- Standard tables tell the glyphs that a read of them answers, and no others.
-use Rattle.std.proofs.Common.{◌≡◌, ℕ, suc, ◌*◌, ◌<◌, Bool, true, false, cond, eqb, ltb, List, [], ◌∷◌, ◌++◌, length, get_or, take, drop, Ok, Err, Result, sym, refl, ap, ◌∙◌, subst, arith}
+use Rattle.std.proofs.Common.{◌≡◌, ℕ, suc, ◌*◌, ◌<◌, Bool, true, false, cond, ◌&&◌, eqb, ltb, List, [], ◌∷◌, ◌++◌, length, get_or, take, drop, Ok, Err, Result, sym, refl, ap, ◌∙◌, subst, arith}
 use Rattle.std.proofs.lemmas.List.{append_assoc, append-nil}
 use Rattle.std.proofs.lemmas.Bool.{eq-eqb, eqb-true, lt-ltb, ltb-true, ne_eqb}
 use Rattle.read.proofs.Thens.{test_passed, then_accepted}
@@ -8,7 +8,6 @@ use Rattle.glyph.specs.Glyphs.{composite, empty, Glyph, simple}
 use Rattle.glyph.specs.declared.refusal.Refusal.{Refusal}
 use Rattle.read.proofs.Arrays.{length_of}
 use Rattle.read.specs.Answers.{front, then}
-use Rattle.read.specs.Tests.{both}
 use Rattle.read.specs.declared.error.ParseError.{ParseError}
 use Rattle.read.specs.declared.error.ParseError.TheVariants.{BadIndex, BadOffset}
 use Rattle.spelled.proofs.Fronts.{front_at, front_ok, passes_both}
@@ -38,7 +37,7 @@ module _ (glyf : List ℕ) (start end : ℕ) where
 
   abbrev unequal : Result Glyph ParseError
   unequal =
-      cond (both (ltb start end) (ltb start (length glyf)))
+      cond (ltb start end && ltb start (length glyf))
       (then (description_said (between start end glyf)) (λ p. Ok p.0)) (Err BadOffset)
 
   -- A glyph that was read.

@@ -1,5 +1,5 @@
 -- What a read of standard glyf and loca tables answers, with the first fault in reading order.
-use Rattle.std.specs.Prelude.{ℕ, zero, suc, ◌-◌, ◌*◌, Bool, true, false, cond, List, [], ◌∷◌, ◌++◌, length, drop, ℤ, pos, negsuc, ◌+ℤ◌, Ok, Err, Result, ◌==◌, nat_le, nat_lt, slice_index}
+use Rattle.std.specs.Prelude.{ℕ, zero, suc, ◌-◌, ◌*◌, Bool, true, false, cond, ◌&&◌, List, [], ◌∷◌, ◌++◌, length, drop, ℤ, pos, negsuc, ◌+ℤ◌, Ok, Err, Result, ◌==◌, nat_le, nat_lt, slice_index}
 use Rattle.binary.specs.Bytes.{box_said, i16_said, u16_said, u8_said}
 use Rattle.binary.specs.declared.BoundingBox.{BoundingBox}
 use Rattle.composite.specs.Components.{has}
@@ -9,7 +9,6 @@ use Rattle.glyph.specs.declared.lists.Point.{Point}
 use Rattle.glyph.specs.declared.refusal.Refusal.{Refusal}
 use Rattle.read.specs.Answers.{front, then}
 use Rattle.read.specs.Arrays.{fields_of}
-use Rattle.read.specs.Tests.{both}
 use Rattle.read.specs.declared.error.ParseError.{ParseError}
 use Rattle.read.specs.declared.error.ParseError.TheVariants.{BadEof, BadIndex, BadOffset, BadValue}
 use Rattle.unpack.specs.Composites.{components_said}
@@ -62,7 +61,7 @@ abbrev pub position_said : Point → ℕ → ℤ → List ℕ → Result (Point 
 position_said last f dx bs =
     then (field_said (y_step_size f) (y_step_said f) bs)
     (λ p.
-    cond (both (placed (last.x +ℤ dx)) (placed (last.y +ℤ p.0))) (Ok (next_point last f dx p.0, p.1))
+    cond (placed (last.x +ℤ dx) && placed (last.y +ℤ p.0)) (Ok (next_point last f dx p.0, p.1))
     (Err BadValue))
 
 -- The points with the given flags and steps along x, a step for each flag, behind those in `ps`, of which `last` is the
@@ -111,7 +110,7 @@ description_said bs =
 abbrev pub entry_said : List ℕ → ℕ → ℕ → Result Glyph ParseError
 entry_said glyf start end =
     cond (start == end) (Ok empty)
-    (cond (both (nat_lt start end) (nat_lt start (length glyf)))
+    (cond (nat_lt start end && nat_lt start (length glyf))
     (then (description_said (between start end glyf)) (λ p. Ok p.0)) (Err BadOffset))
 
 -- A glyph for each offset behind `start`, behind those in `gs`. A refusal has the number of its glyph.

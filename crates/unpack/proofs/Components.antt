@@ -1,5 +1,5 @@
 -- How the components of a glyph are read, one after the other.
-use Rattle.std.proofs.Common.{◌≡◌, ℕ, suc, ◌+◌, ◌-◌, ◌<◌, ◌≤◌, Bool, true, false, cond, List, [], ◌∷◌, ◌++◌, length, Ok, Err, sym, refl, ap, ◌∙◌, arith, le-leb}
+use Rattle.std.proofs.Common.{◌≡◌, ℕ, suc, ◌+◌, ◌-◌, ◌<◌, ◌≤◌, Bool, true, false, cond, ◌||◌, List, [], ◌∷◌, ◌++◌, length, Ok, Err, sym, refl, ap, ◌∙◌, arith, le-leb}
 use borrow.Author.Tests.{lt-leb}
 use Rattle.std.proofs.lemmas.List.{length-drop}
 use Rattle.composite.specs.Components.{component_said, component_size, flags_said, has}
@@ -8,7 +8,6 @@ use Rattle.read.proofs.Taking.{missed, took}
 use Rattle.read.specs.Reading.{Takes}
 use Rattle.read.specs.declared.error.ParseError.{ParseError}
 use Rattle.read.specs.declared.error.ParseError.TheVariants.{BadEof}
-use Rattle.read.specs.Tests.{either}
 use Rattle.unpack.specs.Composites.{component, components_said}
 
 at_least : (b : Bool) → 1 ≤ cond b 2 1
@@ -42,10 +41,10 @@ module _ (total n : ℕ) (cs : List Component) (mark : Bool) (bs : List ℕ) (lo
   one_less : components_said (total - n) cs mark bs ≡ components_said (suc (total - (n + 1))) cs mark bs
   one_less = let e : total - n ≡ suc (total - (n + 1)) = omega arith in ap (λ (k : ℕ). components_said k cs mark bs) e
 
-  pub more : (c : Component) (rest : List ℕ) → component bs ≡ Ok (c, rest) → has c.flags 0x0020 ≡ true → components_said (total - n) cs mark bs ≡ components_said (total - (n + 1)) (cs ++ c ∷ []) (either mark (has c.flags 0x0100)) rest
+  pub more : (c : Component) (rest : List ℕ) → component bs ≡ Ok (c, rest) → has c.flags 0x0020 ≡ true → components_said (total - n) cs mark bs ≡ components_said (total - (n + 1)) (cs ++ c ∷ []) (mark || has c.flags 0x0100) rest
   more c rest e f = one_less ∙ rw (e, f) refl
 
-  pub last : (c : Component) (rest : List ℕ) → component bs ≡ Ok (c, rest) → has c.flags 0x0020 ≡ false → components_said (total - n) cs mark bs ≡ Ok (cs ++ c ∷ [], either mark (has c.flags 0x0100), rest)
+  pub last : (c : Component) (rest : List ℕ) → component bs ≡ Ok (c, rest) → has c.flags 0x0020 ≡ false → components_said (total - n) cs mark bs ≡ Ok (cs ++ c ∷ [], (mark || has c.flags 0x0100), rest)
   last c rest e f = one_less ∙ rw (e, f) refl
 
   pub cut : (d : ParseError) → component bs ≡ Err d → components_said (total - n) cs mark bs ≡ Err d

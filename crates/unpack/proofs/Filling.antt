@@ -19,7 +19,7 @@ use Rattle.woff2.specs.declared.table.TransformedGlyphTable.{TransformedGlyphTab
 use Rattle.unpack.specs.Glyphs.{glyph_said, glyphs_said}
 use Rattle.unpack.specs.Rests.{Rest}
 use Rattle.unpack.specs.Runs.{ListsLaid, table_bits, table_streams}
-use Rattle.unpack.proofs.Runs.{records_length}
+use Rattle.glyph.proofs.Records.{records_length}
 
 -- A glyph for each bit.
 pub glyphs_length : (bs : List Bool) (gs : List Glyph) (s : Rest) (all : List Glyph) → glyphs_said bs gs s ≡ Ok all → length all ≡ length gs + length bs

@@ -1,9 +1,8 @@
 -- How many values a read gives.
-use Rattle.std.proofs.Common.{◌≡◌, ℕ, zero, suc, ◌+◌, ◌-◌, ltb, leb, List, [], ◌∷◌, ◌++◌, length, Ok, ap, arith}
+use Rattle.std.proofs.Common.{◌≡◌, ℕ, zero, suc, ◌+◌, ◌-◌, ◌&&◌, ltb, leb, List, [], ◌∷◌, ◌++◌, length, Ok, ap, arith}
 use Rattle.std.proofs.lemmas.List.{length_push}
 use Rattle.glyph.specs.declared.lists.Point.{Point}
 use Rattle.read.proofs.Thens.{test_passed, then_accepted}
-use Rattle.read.specs.Tests.{both}
 use Rattle.read.specs.declared.error.ParseError.TheVariants.{BadValue}
 use Rattle.unpack.specs.Outlines.{ends_said, packed, point_said, points_said}
 
@@ -13,7 +12,7 @@ ends_length zero es sum bs p h = let e : es ≡ p.0 = cc in omega (arith, ap len
 ends_length (suc c) es sum bs p h =
     let a = then_accepted (packed bs) _ p h in
     let v = a.0.0 in
-    let b = test_passed (both (ltb 0 (sum + v)) (leb (sum + v) 65535)) (ends_said c (es ++ (sum + v - 1) ∷ []) (sum + v) a.0.1) BadValue p a.2 in
+    let b = test_passed (ltb 0 (sum + v) && leb (sum + v) 65535) (ends_said c (es ++ (sum + v - 1) ∷ []) (sum + v) a.0.1) BadValue p a.2 in
     let l = ends_length c (es ++ (sum + v - 1) ∷ []) (sum + v) a.0.1 p b.1 in
     omega (arith, length_push es (sum + v - 1))
 

@@ -1,10 +1,9 @@
 -- How the points of a glyph are read, one flag after the other.
-use Rattle.std.proofs.Common.{◌≡◌, ℕ, ◌+◌, ◌%◌, ◌<◌, Bool, true, false, cond, leb, List, [], ◌∷◌, ◌++◌, length, get_or, take, drop, ℤ, ◌+ℤ◌, Ok, Err, MatchBool, Result, sym, refl, ap, ◌∙◌, arith, MatchResult}
+use Rattle.std.proofs.Common.{◌≡◌, ℕ, ◌+◌, ◌%◌, ◌<◌, Bool, true, false, cond, ◌&&◌, leb, List, [], ◌∷◌, ◌++◌, length, get_or, take, drop, ℤ, ◌+ℤ◌, Ok, Err, MatchBool, Result, sym, refl, ap, ◌∙◌, arith, MatchResult}
 use Rattle.std.proofs.lemmas.List.{drop_more}
 use Rattle.glyph.specs.declared.lists.Point.{Point}
 use Rattle.lut.specs.Triplets.{bytes_in, group_of, steps_said, Triplet}
 use Rattle.read.specs.Answers.{then}
-use Rattle.read.specs.Tests.{both}
 use Rattle.read.specs.declared.error.ParseError.{ParseError}
 use Rattle.read.specs.declared.error.ParseError.TheVariants.{BadEof, BadValue}
 use Rattle.unpack.proofs.Judged.{failed, Judges, passed}
@@ -43,7 +42,7 @@ accepted (Err d) rest x h = let z : ◌≡◌ {A = ℕ} 0 1 = cc in absurd (omeg
 abbrev Moves : ℤ → Result ℤ ParseError → Type 0
 Moves z r = Judges (placed z) z r
 
-both_false : (a : Bool) → both a false ≡ false
+both_false : (a : Bool) → (a && false) ≡ false
 both_false true = refl
 both_false false = refl
 

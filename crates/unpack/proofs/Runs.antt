@@ -1,8 +1,9 @@
 -- Glyphs that were read so far, and one more.
-use Rattle.std.proofs.Common.{◌≡◌, ℕ, suc, ◌+◌, ◌≤◌, List, [], ◌∷◌, ◌++◌, length, sym, refl, ap, ◌∙◌, arith}
+use Rattle.std.proofs.Common.{◌≡◌, ℕ, ◌+◌, ◌≤◌, List, [], ◌∷◌, ◌++◌, length, sym, refl, ap, ◌∙◌, arith}
 use Rattle.std.proofs.lemmas.List.{append_assoc, append-nil, length-append}
 use Rattle.std.specs.List.{flat_map}
 use Rattle.glyph.proofs.Lays.{laid_append, laid_more, length_laid}
+use Rattle.glyph.proofs.Records.{records_length}
 use Rattle.glyph.specs.Glyphs.{components_of, ends_of, Glyph, instructions_of, points_of}
 use Rattle.glyph.specs.Laying.{laid}
 use Rattle.glyph.specs.Records.{behind, needed, record_of, records_of, start}
@@ -64,10 +65,6 @@ needed_push gs g =
 pub records_more : (gs : List Glyph) (g : Glyph) → records_of start (gs ++ g ∷ []) ≡ records_of start gs ++ record_of (needed gs) g ∷ []
 records_more gs g =
     records_push start gs g ∙ ap (λ (at : Places). records_of start gs ++ record_of at g ∷ []) (needed_behind gs)
-
-pub records_length : (at : Places) (gs : List Glyph) → length (records_of at gs) ≡ length gs
-records_length at [] = refl
-records_length at (g ∷ gs) = ap suc (records_length (behind at g) gs)
 
 -- What is laid behind a run is laid with it.
 laid_with : {A : Type 0} (f : Glyph → List A) (gs : List Glyph) (g : Glyph) (old mid new : List A) → mid ≡ laid 0 (flat_map f gs) old → new ≡ laid (length (flat_map f gs)) (f g) mid → new ≡ laid 0 (flat_map f (gs ++ g ∷ [])) old

@@ -1,12 +1,11 @@
 -- The outline of a simple glyph, as its streams say it.
-use Rattle.std.specs.Prelude.{ℕ, zero, suc, ◌+◌, ◌-◌, ◌%◌, cond, List, [], ◌∷◌, ◌++◌, ℤ, ◌+ℤ◌, Ok, Err, Result, nat_le, nat_lt}
+use Rattle.std.specs.Prelude.{ℕ, zero, suc, ◌+◌, ◌-◌, ◌%◌, cond, ◌&&◌, List, [], ◌∷◌, ◌++◌, ℤ, ◌+ℤ◌, Ok, Err, Result, nat_le, nat_lt}
 use Rattle.read.specs.declared.error.ParseError.{ParseError}
 use Rattle.read.specs.declared.error.ParseError.TheVariants.{BadValue}
 use Rattle.glyph.specs.Outlines.{placed}
 use Rattle.glyph.specs.declared.lists.Point.{Point}
 use Rattle.lut.specs.Triplets.{bytes_in, group_of, steps_said}
 use Rattle.read.specs.Answers.{front, then}
-use Rattle.read.specs.Tests.{both}
 use Rattle.woff2.specs.Packed.{packed_said, packed_size}
 
 abbrev pub packed : List ℕ → Result (ℕ × List ℕ) ParseError
@@ -20,7 +19,7 @@ ends_said zero es sum bs = Ok (es, sum, bs)
 ends_said (suc c) es sum bs =
     then (packed bs)
     (λ p.
-    cond (both (nat_lt 0 (sum + p.0)) (nat_le (sum + p.0) 65535)) (ends_said c (es ++ (sum + p.0 - 1) ∷ []) (sum + p.0) p.1)
+    cond (nat_lt 0 (sum + p.0) && nat_le (sum + p.0) 65535) (ends_said c (es ++ (sum + p.0 - 1) ∷ []) (sum + p.0) p.1)
     (Err BadValue))
 
 -- The pair of steps behind a flag of row `r`, and what is left of the glyph data.
@@ -36,7 +35,7 @@ abbrev pub point_said : Point → ℕ → List ℕ → Result (Point × List ℕ
 point_said last f bs =
     then (steps (f % 128) bs)
     (λ q.
-    cond (both (placed (last.x +ℤ q.0.0)) (placed (last.y +ℤ q.0.1)))
+    cond (placed (last.x +ℤ q.0.0) && placed (last.y +ℤ q.0.1))
     (Ok (point (last.x +ℤ q.0.0) (last.y +ℤ q.0.1) f, q.1)) (Err BadValue))
 
 -- The points of the flags, behind those in `ps`, of which `last` is the last. The answer has all of them, and what is

@@ -1,6 +1,5 @@
 //! The outline of a simple glyph.
-ghost use Rattle.std.specs.Prelude.{◌≡◌, ◌+◌, ◌^◌, ◌<◌, ◌≤◌, [], length, ◌+ℤ◌, Ok, Err, MatchBool, MatchResult, nat_le, nat_lt};
-ghost use Rattle.read.specs.Tests.{both};
+ghost use Rattle.std.specs.Prelude.{◌≡◌, ◌+◌, ◌^◌, ◌<◌, ◌≤◌, ◌&&◌, [], length, ◌+ℤ◌, Ok, Err, MatchBool, MatchResult, nat_le, nat_lt};
 ghost use Rattle.read.specs.declared.error.ParseError.TheVariants.{BadValue};
 ghost use Rattle.glyph.specs.Laying.{laid};
 ghost use Rattle.unpack.specs.Outlines.{ends_said, point_said, points_said};
@@ -34,7 +33,7 @@ pub(crate) fn read_ends(
 
 // The points so far with those of one contour more.
 fn next_sum(points: u16, size: u16) -> Result<u16, ParseError>
-    ensures { MatchBool (both (nat_lt 0 (points + size)) (nat_le (points + size) 65535)) (result ≡ Ok (points + size)) (result ≡ Err BadValue) }
+    ensures { MatchBool (nat_lt 0 (points + size) && nat_le (points + size) 65535) (result ≡ Ok (points + size)) (result ≡ Err BadValue) }
 {
     points
         .checked_add(size)

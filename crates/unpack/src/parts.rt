@@ -1,7 +1,6 @@
 //! The components of a composite glyph.
-ghost use Rattle.std.specs.Prelude.{◌≡◌, suc, ◌+◌, ◌^◌, ◌<◌, ◌≤◌, false, [], length, Ok, Err, MatchResult};
+ghost use Rattle.std.specs.Prelude.{◌≡◌, suc, ◌+◌, ◌^◌, ◌<◌, ◌≤◌, false, ◌||◌, [], length, Ok, Err, MatchResult};
 ghost use Rattle.composite.specs.Components.{has};
-ghost use Rattle.read.specs.Tests.{either};
 ghost use Rattle.unpack.specs.Composites.{components_said};
 ghost use Rattle.glyph.specs.Laying.{laid};
 
@@ -37,7 +36,7 @@ pub(crate) fn read_components(
 }
 
 fn marked(mark: bool, flags: u16) -> bool
-    ensures { result ≡ either mark (has flags 0x0100) }
+    ensures { result ≡ (mark || has flags 0x0100) }
 {
     mark || has(flags, WE_HAVE_INSTRUCTIONS)
 }

@@ -1,23 +1,22 @@
-use Rattle.std.proofs.Common.{◌≡◌, ◌%◌, Bool, true, false, cond, ℤ, Ok, Err, MatchBool, Result, ap, ◌∙◌, w16, SFits, rules}
+use Rattle.std.proofs.Common.{◌≡◌, ◌%◌, Bool, true, false, cond, ◌&&◌, ℤ, Ok, Err, MatchBool, Result, ap, ◌∙◌, w16, SFits, rules}
 use Rattle.std.proofs.lemmas.Int.{to_z-of_z}
 use Rattle.std.proofs.lemmas.Result.{err_from_is_err_and}
-use Rattle.read.specs.Tests.{both}
 use Rattle.read.specs.declared.error.ParseError.{ParseError}
 use Rattle.read.specs.declared.error.ParseError.TheVariants.{BadValue}
 use Rattle.lut.specs.Triplets.{group_of}
 use Rattle.lut.proofs.Sizes.{said}
 use Rattle.lut.proofs.steps.steps.Goals as goal
 
-paired : (a b : Bool) (sx sy dx dy : ℤ) → MatchBool a (◌≡◌ {A = Result ℤ ParseError} (Ok dx) (Ok sx)) (◌≡◌ {A = Result ℤ ParseError} (Ok dx) (Err BadValue)) → MatchBool b (◌≡◌ {A = Result ℤ ParseError} (Ok dy) (Ok sy)) (◌≡◌ {A = Result ℤ ParseError} (Ok dy) (Err BadValue)) → ◌≡◌ {A = Result (ℤ × ℤ) ParseError} (Ok (dx, dy)) (cond (both a b) (Ok (sx, sy)) (Err BadValue))
+paired : (a b : Bool) (sx sy dx dy : ℤ) → MatchBool a (◌≡◌ {A = Result ℤ ParseError} (Ok dx) (Ok sx)) (◌≡◌ {A = Result ℤ ParseError} (Ok dx) (Err BadValue)) → MatchBool b (◌≡◌ {A = Result ℤ ParseError} (Ok dy) (Ok sy)) (◌≡◌ {A = Result ℤ ParseError} (Ok dy) (Err BadValue)) → ◌≡◌ {A = Result (ℤ × ℤ) ParseError} (Ok (dx, dy)) (cond (a && b) (Ok (sx, sy)) (Err BadValue))
 paired true true sx sy dx dy p q = let e : dx ≡ sx = cc in let f : dy ≡ sy = cc in cc
 paired true false sx sy dx dy p q = absurd (cc)
 paired false b sx sy dx dy p q = absurd (cc)
 
-refused_x : (a b : Bool) (sx sy s : ℤ) (d : ParseError) (r : Result (ℤ × ℤ) ParseError) → MatchBool a (◌≡◌ {A = Result ℤ ParseError} (Err d) (Ok s)) (◌≡◌ {A = Result ℤ ParseError} (Err d) (Err BadValue)) → r ≡ Err d → r ≡ cond (both a b) (Ok (sx, sy)) (Err BadValue)
+refused_x : (a b : Bool) (sx sy s : ℤ) (d : ParseError) (r : Result (ℤ × ℤ) ParseError) → MatchBool a (◌≡◌ {A = Result ℤ ParseError} (Err d) (Ok s)) (◌≡◌ {A = Result ℤ ParseError} (Err d) (Err BadValue)) → r ≡ Err d → r ≡ cond (a && b) (Ok (sx, sy)) (Err BadValue)
 refused_x true b sx sy s d r p e = absurd (cc)
 refused_x false b sx sy s d r p e = cc
 
-refused_y : (a b : Bool) (sx sy s : ℤ) (d : ParseError) (r : Result (ℤ × ℤ) ParseError) → MatchBool b (◌≡◌ {A = Result ℤ ParseError} (Err d) (Ok s)) (◌≡◌ {A = Result ℤ ParseError} (Err d) (Err BadValue)) → r ≡ Err d → r ≡ cond (both a b) (Ok (sx, sy)) (Err BadValue)
+refused_y : (a b : Bool) (sx sy s : ℤ) (d : ParseError) (r : Result (ℤ × ℤ) ParseError) → MatchBool b (◌≡◌ {A = Result ℤ ParseError} (Err d) (Ok s)) (◌≡◌ {A = Result ℤ ParseError} (Err d) (Err BadValue)) → r ≡ Err d → r ≡ cond (a && b) (Ok (sx, sy)) (Err BadValue)
 refused_y a true sx sy s d r p e = absurd (cc)
 refused_y true false sx sy s d r p e = cc
 refused_y false false sx sy s d r p e = cc

@@ -1,4 +1,4 @@
-use Rattle.std.proofs.Common.{◌≡◌, ℕ, Bool, true, false, leb, List, length, None, Ok, Err, MatchBool, Result, subst, arith}
+use Rattle.std.proofs.Common.{◌≡◌, ℕ, Bool, true, false, leb, List, length, None, Ok, Err, MatchBool, Result, subst}
 use Rattle.read.specs.declared.error.ParseError.{ParseError}
 use Rattle.read.specs.declared.error.ParseError.TheVariants.{BadEof}
 use Rattle.woff2.specs.Transformed.{header_said, streams_fault, Streams}
