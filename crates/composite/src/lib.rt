@@ -12,6 +12,7 @@ use glyph::{Component, CompositeGlyphArgument, CompositeGlyphScale};
 use read::ReadCtxt;
 use read::error::ParseError;
 
+// Masks and no enum: a component keeps every bit that a font may set, also those that have no name here.
 /// The arguments are words and not bytes.
 pub const ARG_1_AND_2_ARE_WORDS: u16 = 0x0001;
 /// The arguments are a signed shift in x and y.

@@ -28,6 +28,7 @@ pub enum GlyphKind {
 }
 
 /// A part of a list: where it begins, and how many places it has.
+// Numbers and no slice: a record lies in one of the lists that its parts are of, and the caller owns them all.
 #[derive(Clone, Copy, Default)]
 pub struct Part {
     pub start: u32,
@@ -46,6 +47,7 @@ pub struct GlyphRecord {
 }
 
 /// Memory for glyphs and metrics. Its lengths are the caller's choice and never change.
+// Nothing here grows, since the calls on a forme allocate nothing. How many places are used is for the forme to say.
 #[derive(Drop)]
 pub struct Lists {
     pub records: Vec<GlyphRecord>,

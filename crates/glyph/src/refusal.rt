@@ -5,6 +5,7 @@ ghost use Rattle.std.specs.Prelude.{◌≡◌};
 use read::error::ParseError;
 
 /// The glyph of a refusal that no glyph has: one before the first glyph, or one of the lists.
+// A rule of the project: a refusal is told by two numbers, and this is the second where there is no glyph.
 pub const NO_GLYPH: u16 = 65535;
 
 /// Why a call was refused.
@@ -27,6 +28,7 @@ impl Cause {
     pub fn number(self) -> u8
         ensures { result ≡ cause_number self }
     {
+        // A match: a variant that holds an error can have no number of its own.
         match self {
             Cause::Parse(error) => error.number(),
             Cause::Lists => 5,

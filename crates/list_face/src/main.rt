@@ -42,6 +42,7 @@ fn list_glyphs(rt: &HostRuntime, header: &GlyfHeader, table: &[u8]) -> anyhow::R
     Ok(())
 }
 
+// It begins as `unwoff2` does. They are two programs, and a crate for these lines would be no plainer.
 fn run(rt: &HostRuntime) -> anyhow::Result<()> {
     let path = env::args(rt)?.nth(1).context("usage: list_face FILE")?;
     let table = fs::read(rt, path.as_str())?;

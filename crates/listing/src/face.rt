@@ -14,6 +14,7 @@ pub struct Face<'a> {
 
 impl fmt::Display for Face<'_> {
     fn fmt<W: fmt::Write>(&self, f: &mut fmt::Formatter<W>) -> fmt::Result {
+        // By number, which is shown, and which the forme is asked for.
         for i in 0..self.forme.num_glyphs() {
             match self.forme.glyph(i, self.lists) {
                 Some(view) => writeln!(f, "glyph {i}: {}", GlyphText(view))?,

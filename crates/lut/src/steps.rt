@@ -7,7 +7,7 @@ ghost use Rattle.read.specs.declared.error.ParseError.TheVariants.{BadValue};
 use crate::table::XYTriplet;
 use read::error::ParseError;
 
-// A size with its sign. The negation of 0 is 0, and 32768 is in range only as -32768.
+// A size with its sign, which a row has as a flag. The negation of 0 is 0, and 32768 is in range only as -32768.
 fn signed(falls: bool, size: u32) -> Result<i16, ParseError>
     ensures { MatchBool (step_fits falls size) (result ≡ Ok (step falls size)) (result ≡ Err BadValue) }
 {

@@ -2,6 +2,7 @@
 
 /// A row of the table: how many bytes a pair of steps has, how many of their bits belong to x and to y, what is added to
 /// those, and which of the two is negative.
+// The signs are flags: a rule of the project keeps the rows in the form that allsorts gives them.
 #[derive(Clone, Copy)]
 pub struct XYTriplet {
     pub byte_count: u8,

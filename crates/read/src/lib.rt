@@ -16,6 +16,7 @@ pub mod error;
 pub use array::{ReadArray, ReadArrayIter};
 
 /// Bytes to read.
+// A contract names the field, here and in `ReadCtxt`: a type with a lifetime that is `Copy` can have no model.
 #[derive(Clone, Copy)]
 pub struct ReadScope<'a> {
     bytes: &'a [u8],

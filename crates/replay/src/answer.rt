@@ -39,6 +39,7 @@ fn show_glyphs<W: fmt::Write>(
 ) -> fmt::Result {
     let count = forme.num_glyphs();
     write!(f, "ok {count}")?;
+    // By number, which the forme is asked for.
     for i in 0..count {
         match forme.glyph(i, lists) {
             Some(view) => write!(f, "\n{}", GlyphText(view))?,

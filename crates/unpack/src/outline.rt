@@ -22,6 +22,7 @@ pub(crate) fn read_ends(
     ensures { MatchResult (ends_said contours [] 0 ctxt.old.rest.now) (λ p. (result ≡ Ok p.1) × (ctxt.new.rest.now ≡ p.2) × (ends.new ≡ laid at p.0 ends.old)) (λ e. result ≡ Err e) }
 {
     let mut points: u16 = 0;
+    // By number: the sizes lie in a stream, and only reading one shows where the next begins.
     for i in 0..contours {
         let size = PackedU16::read(ctxt)?;
         let sum = next_sum(points, size)?;

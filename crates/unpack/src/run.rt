@@ -26,6 +26,7 @@ pub(crate) fn read_glyphs(sound: &SoundTable<'_>, slots: &mut Slots<'_>) -> Resu
     let mut streams = Streams::new(sound);
     let bitmap = BitSlice::new(sound.table.bbox_bitmap.data());
     let mut at = Places::default();
+    // By number, which a refusal tells.
     for i in 0..sound.table.header.num_glyphs {
         let boxed = bitmap.get(usize::from(i)).unwrap_or(false);
         at = read_next(&mut streams, boxed, i, slots, at)?;

@@ -60,7 +60,7 @@ pub(crate) fn read_simple(
     })
 }
 
-// The instructions of a composite glyph, which has them only if a component says so.
+// The instructions of a composite glyph, which has them only if a component says so. An `if`, as for the box.
 fn read_marked(
     mark: bool,
     glyphs: &mut ReadCtxt<'_>,

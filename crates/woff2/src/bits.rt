@@ -4,6 +4,7 @@ ghost use Rattle.woff2.specs.Bits.{bits, bits_of};
 ghost use Rattle.std.specs.Prelude.{◌≡◌, ◌<◌, Some};
 
 /// Bits, the highest of each byte first.
+// A contract names the field: a type with a lifetime that is `Copy` can have no model.
 #[derive(Clone, Copy)]
 pub struct BitSlice<'a> {
     bytes: &'a [u8],

@@ -11,6 +11,7 @@ use read::{ReadCtxt, ReadScope};
 #[derive(Clone, Copy)]
 pub struct GlyfHeader {
     pub num_glyphs: u16,
+    /// 0 for short and 1 for long. Any other number may stand here and is told as it is, so this is no enum.
     pub index_format: u16,
     pub n_contour_size: u32,
     pub n_points_size: u32,
@@ -96,6 +97,7 @@ impl GlyfHeader {
     pub fn spans(&self) -> [Span; 7]
         ensures { result ≡ spans_of self.now }
     {
+        // Written out: a closure over the sizes that adds them up would leave its contract to be stated.
         let points = 36 + u64::from(self.n_contour_size);
         let flags = points + u64::from(self.n_points_size);
         let glyphs = flags + u64::from(self.flag_size);

@@ -43,6 +43,7 @@ impl WriteBuffer {
     }
 }
 
+// The two puts differ in what they store. A function for their test would be no shorter than the test.
 impl WriteContext for WriteBuffer {
     ghost meaning = { means.buffer };
 
