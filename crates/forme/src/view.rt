@@ -16,19 +16,13 @@ fn look_up<'a>(forme: &Forme, index: usize, lists: &'a Lists) -> Option<GlyphVie
     lists.records.get(index)?.view(lists)
 }
 
-fn show<'a>(forme: &Forme, index: usize, lists: &'a Lists) -> Option<GlyphView<'a>>
-    ensures answer { Asked forme.now lists.now index result }
-    ensures shows { (gs : List Glyph) → Holds forme.now lists.now gs → ShowsGlyph gs index result }
-{
-    look_up(forme, index, lists)
-}
-
 impl Forme {
     /// Glyph `index`, or `None` when it is absent: the forme has no such glyph, or its places lie outside the lists.
+    #[tactic(auto, using(crate::proofs::Showing::shows_glyph))]
     pub fn glyph<'a>(&self, index: usize, lists: &'a Lists) -> Option<GlyphView<'a>>
         ensures answer { Asked self.now lists.now index result }
         ensures shows { (gs : List Glyph) → Holds self.now lists.now gs → ShowsGlyph gs index result }
     {
-        show(self, index, lists)
+        look_up(self, index, lists)
     }
 }

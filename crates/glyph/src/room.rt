@@ -20,16 +20,10 @@ impl Lists {
     pub fn have_room(&self, glyphs: u16, needed: Places) -> bool
         ensures { result ≡ room_for glyphs needed self.now }
     {
-        room(self, glyphs, needed)
+        usize::from(glyphs) <= places_of(&self.records)
+            && needed.ends as usize <= places_of(&self.ends)
+            && needed.points as usize <= places_of(&self.points)
+            && needed.components as usize <= places_of(&self.components)
+            && needed.instructions as usize <= places_of(&self.instructions)
     }
-}
-
-fn room(lists: &Lists, glyphs: u16, needed: Places) -> bool
-    ensures { result ≡ room_for glyphs needed lists.now }
-{
-    usize::from(glyphs) <= places_of(&lists.records)
-        && needed.ends as usize <= places_of(&lists.ends)
-        && needed.points as usize <= places_of(&lists.points)
-        && needed.components as usize <= places_of(&lists.components)
-        && needed.instructions as usize <= places_of(&lists.instructions)
 }

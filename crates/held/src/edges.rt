@@ -13,18 +13,11 @@ fn edge_at(lists: &Lists, index: usize) -> i16
         .map_or(0, |glyph_record| glyph_record.bbox.x_min)
 }
 
-// Apart from `edge_at`: tried in one, and the proof did not close.
-fn edge_told(lists: &Lists, index: usize) -> i16
-    ensures answer { result ≡ left_edge lists.now index }
-    ensures glyph { HeldEdge lists.now index result }
-{
-    edge_at(lists, index)
-}
-
 /// The `x_min` of glyph `index`, which is 0 for an empty glyph and past the records.
+#[tactic(auto, using(crate::proofs::Boxed::held_edge))]
 pub fn left_edge(lists: &Lists, index: usize) -> i16
     ensures answer { result ≡ left_edge lists.now index }
     ensures glyph { HeldEdge lists.now index result }
 {
-    edge_told(lists, index)
+    edge_at(lists, index)
 }

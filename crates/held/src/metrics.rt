@@ -4,15 +4,9 @@ ghost use Rattle.held.specs.Metrics.{metrics_lie};
 
 use glyph::{Lists, places_of};
 
-fn both_fit(full: u32, tail: u32, lists: &Lists) -> bool
-    ensures { result ≡ metrics_lie full tail lists.now }
-{
-    full as usize <= places_of(&lists.full) && tail as usize <= places_of(&lists.tail)
-}
-
 /// Whether so many full metrics, and so many bearings behind them, lie inside their lists.
 pub fn metrics_lie(full: u32, tail: u32, lists: &Lists) -> bool
     ensures { result ≡ metrics_lie full tail lists.now }
 {
-    both_fit(full, tail, lists)
+    full as usize <= places_of(&lists.full) && tail as usize <= places_of(&lists.tail)
 }

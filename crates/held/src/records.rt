@@ -93,18 +93,12 @@ fn all_held(glyphs: u32, lists: &Lists) -> bool
     count <= places_of(&lists.records) && records_held(&lists.records[..count], lists)
 }
 
-fn told(glyphs: u32, lists: &Lists) -> bool
-    ensures answer { result ≡ held glyphs lists.now }
-    ensures exact { TellsHeld glyphs lists.now result }
-{
-    all_held(glyphs, lists)
-}
-
 /// Whether the lists hold so many glyphs: the records of sound glyphs that lie one behind the other from place 0 on,
 /// inside the lists.
+#[tactic(auto, using(crate::proofs::Holding::tells_held))]
 pub fn lists_hold(glyphs: u32, lists: &Lists) -> bool
     ensures answer { result ≡ held glyphs lists.now }
     ensures exact { TellsHeld glyphs lists.now result }
 {
-    told(glyphs, lists)
+    all_held(glyphs, lists)
 }

@@ -16,12 +16,6 @@ use glyph::{Cause, Component, GlyphRecord, Lists, NO_GLYPH, Places, Point, Refus
 pub fn read_table(data: &[u8], lists: &mut Lists) -> Result<u16, Refusal>
     ensures { ReadInto (unpacked «data».now lists.old) lists.old result lists.new }
 {
-    read_into(data, lists)
-}
-
-fn read_into(data: &[u8], lists: &mut Lists) -> Result<u16, Refusal>
-    ensures { ReadInto (unpacked «data».now lists.old) lists.old result lists.new }
-{
     let sound = at_glyph(NO_GLYPH, SoundTable::read(data))?;
     fill(&sound, lists)
 }
