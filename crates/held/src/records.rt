@@ -86,13 +86,6 @@ fn records_held(records: &[GlyphRecord], lists: &Lists) -> bool
     true
 }
 
-fn all_held(glyphs: u32, lists: &Lists) -> bool
-    ensures { result ≡ held glyphs lists.now }
-{
-    let count = glyphs as usize;
-    count <= places_of(&lists.records) && records_held(&lists.records[..count], lists)
-}
-
 /// Whether the lists hold so many glyphs: the records of sound glyphs that lie one behind the other from place 0 on,
 /// inside the lists.
 #[tactic(auto, using(crate::proofs::Holding::tells_held))]
@@ -100,5 +93,6 @@ pub fn lists_hold(glyphs: u32, lists: &Lists) -> bool
     ensures answer { result ≡ held glyphs lists.now }
     ensures exact { TellsHeld glyphs lists.now result }
 {
-    all_held(glyphs, lists)
+    let count = glyphs as usize;
+    count <= places_of(&lists.records) && records_held(&lists.records[..count], lists)
 }
