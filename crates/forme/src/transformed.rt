@@ -18,6 +18,7 @@ impl Forme {
     }
 }
 
+// Apart from `unpack`, since its proof needs answers: an edit of that one is then refused at its own place.
 fn unpack_into(forme: &mut Forme, table: &[u8], lists: &mut Lists) -> Result<(), Refusal>
     ensures answer { Unpacked table.now forme.old lists.old result forme.new lists.new }
     ensures spelled { AcceptsTheSpelled table.now forme.old lists.old result forme.new lists.new }

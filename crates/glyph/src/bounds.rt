@@ -24,7 +24,7 @@ fn around(points: &[Point], first: Point) -> BoundingBox
         x_max: first.x,
         y_max: first.y,
     };
-    // A loop and no fold: the loop is the form that this project wants here.
+    // A loop, beside which the definition can be read step by step: a rule of the project.
     for point in points {
         bbox = grow(bbox, *point);
     }

@@ -36,6 +36,7 @@ pub struct Part {
 }
 
 /// A glyph, by its kind, its box, and the parts of the lists that are its own.
+// The kind stands beside the parts, since a record in a caller's lists may have any of them, whatever its kind.
 #[derive(Clone, Copy, Default)]
 pub struct GlyphRecord {
     pub kind: GlyphKind,

@@ -24,6 +24,7 @@ impl<T: Drop> From<AllocFailed<T>> for HexError {
 }
 
 /// The bytes that a text spells: two lower-case digits to a byte, `-` for none.
+// The kit's crate `hex` takes upper-case digits too, and no `-`.
 pub fn read_hex(heap: Global, text: &[u8]) -> Result<Vec<u8>, HexError>
     ensures { Read (hex_said text.now) result }
 {

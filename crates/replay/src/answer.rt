@@ -12,6 +12,7 @@ pub enum Answer<'a> {
     Glyphs(&'a Forme, &'a Lists),
     Glyph(Option<GlyphView<'a>>),
     Lists(&'a Lists),
+    /// A call that was refused has been answered: nothing was wrong with the line.
     Refused(Refusal),
 }
 

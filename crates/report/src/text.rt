@@ -4,6 +4,7 @@ use read::error::ParseError;
 use std::fmt;
 use woff2::GlyfHeader;
 
+// In the order of `GlyfHeader::spans`.
 const STREAMS: [&str; 7] = [
     "contours",
     "point counts",

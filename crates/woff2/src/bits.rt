@@ -25,6 +25,7 @@ impl<'a> BitSlice<'a> {
     }
 }
 
+// Apart from `get`, since its proof needs answers: an edit of that one is then refused at its own place.
 fn bit_at(bytes: &[u8], index: usize) -> Option<bool>
     ensures { result ≡ slice_get (bits bytes.now) index }
 {

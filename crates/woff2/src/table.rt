@@ -33,6 +33,7 @@ impl<'a> TransformedGlyphTable<'a> {
         TransformedGlyphTable::take_apart(data)
     }
 
+    // Apart from `read`, since its proof needs answers: an edit of that one is then refused at its own place.
     fn take_apart(data: &'a [u8]) -> Result<TransformedGlyphTable<'a>, ParseError>
         ensures { TakenApart «data».now result }
     {

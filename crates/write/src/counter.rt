@@ -32,6 +32,7 @@ impl WriteContext for WriteCounter {
 
     #[tactic(auto, using(crate::proofs::Counts::any_bytes))]
     fn write_bytes(&mut self, bytes: &[u8]) -> Result<(), WriteError> {
+        // A counter does not look at the bytes.
         self.write_zeros(bytes.len())
     }
 
