@@ -13,12 +13,12 @@ pub(crate) fn read_instructions(
     glyphs: &mut ReadCtxt<'_>,
     stream: &mut ReadCtxt<'_>,
     instructions: &mut [u8],
-    at: usize,
+    at: u32,
 ) -> Result<u16, ParseError>
     ensures { MatchResult (instructions_said glyphs.old.rest.now stream.old.rest.now) (λ p. (result ≡ Ok (length p.0)) × (glyphs.new.rest.now ≡ p.1) × (stream.new.rest.now ≡ p.2) × (instructions.new ≡ laid at p.0 instructions.old)) (λ e. result ≡ Err e) }
 {
     let size = PackedU16::read(glyphs)?;
     let bytes = stream.read_slice(usize::from(size))?;
-    lay_all(instructions, at, bytes);
+    lay_all(instructions, at as usize, bytes);
     Ok(size)
 }

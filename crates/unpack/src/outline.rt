@@ -1,5 +1,5 @@
 //! The outline of a simple glyph.
-ghost use Rattle.std.specs.Prelude.{◌≡◌, ◌+◌, ◌^◌, ◌<◌, ◌≤◌, ◌&&◌, [], length, ◌+ℤ◌, Ok, Err, MatchBool, MatchResult, nat_le, nat_lt};
+ghost use Rattle.std.specs.Prelude.{◌≡◌, ◌+◌, ◌≤◌, ◌&&◌, [], length, ◌+ℤ◌, Ok, Err, MatchBool, MatchResult, nat_le, nat_lt};
 ghost use Rattle.read.specs.declared.error.ParseError.TheVariants.{BadValue};
 ghost use Rattle.glyph.specs.Laying.{laid};
 ghost use Rattle.unpack.specs.Outlines.{ends_said, point_said, points_said};
@@ -16,9 +16,8 @@ pub(crate) fn read_ends(
     ctxt: &mut ReadCtxt<'_>,
     contours: u16,
     ends: &mut [u16],
-    at: usize,
+    at: u32,
 ) -> Result<u16, ParseError>
-    requires { at < 2 ^ 32 }
     ensures { MatchResult (ends_said contours [] 0 ctxt.old.rest.now) (λ p. (result ≡ Ok p.1) × (ctxt.new.rest.now ≡ p.2) × (ends.new ≡ laid at p.0 ends.old)) (λ e. result ≡ Err e) }
 {
     let mut points: u16 = 0;
@@ -26,7 +25,7 @@ pub(crate) fn read_ends(
     for i in 0..contours {
         let size = PackedU16::read(ctxt)?;
         let sum = next_sum(points, size)?;
-        lay(ends, at + usize::from(i), sum - 1);
+        lay(ends, at as usize + usize::from(i), sum - 1);
         points = sum;
     }
     Ok(points)
@@ -47,15 +46,15 @@ pub(crate) fn read_points(
     flags: &[u8],
     glyphs: &mut ReadCtxt<'_>,
     points: &mut [Point],
-    at: usize,
+    at: u32,
 ) -> Result<(), ParseError>
-    requires { (at < 2 ^ 32) × (length flags.now ≤ 65535) }
+    requires { length flags.now ≤ 65535 }
     ensures { MatchResult (points_said flags.now [] origin glyphs.old.rest.now) (λ p. (result ≡ Ok tt) × (glyphs.new.rest.now ≡ p.1) × (points.new ≡ laid at p.0 points.old)) (λ e. result ≡ Err e) }
 {
     let mut last = Point::ORIGIN;
     for (i, flag) in flags.iter().enumerate() {
         let next = read_point(last, *flag, glyphs)?;
-        lay(points, at + i, next);
+        lay(points, at as usize + i, next);
         last = next;
     }
     Ok(())

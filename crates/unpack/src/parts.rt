@@ -1,5 +1,5 @@
 //! The components of a composite glyph.
-ghost use Rattle.std.specs.Prelude.{◌≡◌, suc, ◌+◌, ◌^◌, ◌<◌, ◌≤◌, false, ◌||◌, [], length, Ok, Err, MatchResult};
+ghost use Rattle.std.specs.Prelude.{◌≡◌, suc, ◌+◌, ◌≤◌, false, ◌||◌, [], length, Ok, Err, MatchResult};
 ghost use Rattle.composite.specs.Components.{has};
 ghost use Rattle.unpack.specs.Composites.{components_said};
 ghost use Rattle.glyph.specs.Laying.{laid};
@@ -14,9 +14,8 @@ use read::error::ParseError;
 pub(crate) fn read_components(
     ctxt: &mut ReadCtxt<'_>,
     components: &mut [Component],
-    at: usize,
+    at: u32,
 ) -> Result<(usize, bool), ParseError>
-    requires { at < 2 ^ 32 }
     ensures none_more { length ctxt.new.rest.now ≤ length ctxt.old.rest.now }
     ensures read { MatchResult (components_said (suc (length ctxt.old.rest.now)) [] false ctxt.old.rest.now) (λ p. (result ≡ Ok (length p.0, p.1)) × (ctxt.new.rest.now ≡ p.2) × (components.new ≡ laid at p.0 components.old) × (length ctxt.new.rest.now + length p.0 ≤ length ctxt.old.rest.now)) (λ e. result ≡ Err e) }
 {
@@ -25,7 +24,7 @@ pub(crate) fn read_components(
     let mut have_instructions = false;
     let mark = loop {
         let component = read_component(ctxt)?;
-        lay(components, at + count, component);
+        lay(components, at as usize + count, component);
         count += 1;
         have_instructions = marked(have_instructions, component.flags);
         if !has(component.flags, MORE_COMPONENTS) {

@@ -40,14 +40,14 @@ pub(crate) fn read_simple(
     ensures same_lent { SameLent slots.old slots.new }
     ensures read { GlyphRead boxed (simple_said boxed contours (left streams.old)) at (left streams.old) (left streams.new) (in_slots slots.old) (in_slots slots.new) result }
 {
-    let count = read_ends(&mut streams.points, contours, slots.ends, at.ends as usize)?;
+    let count = read_ends(&mut streams.points, contours, slots.ends, at.ends)?;
     let flags = streams.flags.read_slice(usize::from(count))?;
-    read_points(flags, &mut streams.glyphs, slots.points, at.points as usize)?;
+    read_points(flags, &mut streams.glyphs, slots.points, at.points)?;
     let hints = read_instructions(
         &mut streams.glyphs,
         &mut streams.instructions,
         slots.instructions,
-        at.instructions as usize,
+        at.instructions,
     )?;
     let bbox = own_box(boxed, &mut streams.boxes)?;
     Ok(Taken {
@@ -66,7 +66,7 @@ fn read_marked(
     glyphs: &mut ReadCtxt<'_>,
     stream: &mut ReadCtxt<'_>,
     instructions: &mut [u8],
-    at: usize,
+    at: u32,
 ) -> Result<u16, ParseError>
     ensures { MatchResult (marked_instructions mark glyphs.old.rest.now stream.old.rest.now) (λ p. (result ≡ Ok (length p.0)) × (glyphs.new.rest.now ≡ p.1) × (stream.new.rest.now ≡ p.2) × (instructions.new ≡ laid at p.0 instructions.old)) (λ e. result ≡ Err e) }
 {
@@ -87,17 +87,13 @@ pub(crate) fn read_composite(
     ensures same_lent { SameLent slots.old slots.new }
     ensures read { GlyphRead boxed (composite_said boxed (left streams.old)) at (left streams.old) (left streams.new) (in_slots slots.old) (in_slots slots.new) result }
 {
-    let (count, mark) = read_components(
-        &mut streams.composites,
-        slots.components,
-        at.components as usize,
-    )?;
+    let (count, mark) = read_components(&mut streams.composites, slots.components, at.components)?;
     let hints = read_marked(
         mark,
         &mut streams.glyphs,
         &mut streams.instructions,
         slots.instructions,
-        at.instructions as usize,
+        at.instructions,
     )?;
     let Some(bbox) = own_box(boxed, &mut streams.boxes)? else {
         return Err(ParseError::BadIndex);
