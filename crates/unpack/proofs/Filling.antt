@@ -18,7 +18,7 @@ use Rattle.woff2.specs.Bits.{bits}
 use Rattle.woff2.specs.declared.table.TransformedGlyphTable.{TransformedGlyphTable}
 use Rattle.unpack.specs.Glyphs.{glyph_said, glyphs_said}
 use Rattle.unpack.specs.Rests.{Rest}
-use Rattle.unpack.specs.Runs.{ListsLaid, table_bits, table_streams}
+use Rattle.unpack.specs.Runs.{glyphs_in, ListsLaid, table_bits, table_streams}
 use Rattle.glyph.proofs.Records.{records_length}
 
 -- A glyph for each bit.
@@ -29,7 +29,7 @@ glyphs_length (b ∷ bs) gs s all h =
     let l = glyphs_length bs (gs ++ a.0.0 ∷ []) a.0.1 all a.2 in
     omega (arith, length_push gs a.0.0)
 
-pub as_many : (t : TransformedGlyphTable) (gs : List Glyph) → t.header.num_glyphs ≤ 8 * length t.bbox_bitmap.bytes.now → glyphs_said (table_bits t) [] (table_streams t) ≡ Ok gs → t.header.num_glyphs ≡ length gs
+pub as_many : (t : TransformedGlyphTable) (gs : List Glyph) → t.header.num_glyphs ≤ 8 * length t.bbox_bitmap.bytes.now → glyphs_in t ≡ Ok gs → t.header.num_glyphs ≡ length gs
 as_many t gs long h =
     let bm = t.bbox_bitmap.bytes.now in
     let l = glyphs_length (table_bits t) [] (table_streams t) gs h in

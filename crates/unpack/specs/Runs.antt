@@ -1,13 +1,15 @@
 -- Glyphs laid one behind the other.
-use Rattle.std.specs.Prelude.{◌≡◌, ◌≤◌, Bool, List, length, take}
+use Rattle.std.specs.Prelude.{◌≡◌, ◌≤◌, Bool, List, [], length, take, Result}
 use Rattle.std.specs.List.{flat_map}
 use Rattle.glyph.specs.Glyphs.{components_of, ends_of, Glyph, instructions_of, points_of}
 use Rattle.glyph.specs.Laying.{laid}
 use Rattle.glyph.specs.Records.{records_of, start}
 use Rattle.glyph.specs.declared.lists.Lists.{Lists}
+use Rattle.glyph.specs.declared.refusal.Refusal.{Refusal}
 use Rattle.woff2.specs.Bits.{bits}
 use Rattle.woff2.specs.declared.table.TransformedGlyphTable.{TransformedGlyphTable}
 use Rattle.unpack.specs.Contents.{Contents, in_lists}
+use Rattle.unpack.specs.Glyphs.{glyphs_said}
 use Rattle.unpack.specs.Rests.{Rest}
 
 -- The streams of a table that was taken apart.
@@ -26,6 +28,10 @@ table_streams t =
 -- A bit for each glyph.
 abbrev pub table_bits : TransformedGlyphTable → List Bool
 table_bits t = take t.header.num_glyphs (bits t.bbox_bitmap.bytes.now)
+
+-- What a read of the glyphs of a table that was taken apart answers.
+abbrev pub glyphs_in : TransformedGlyphTable → Result (List Glyph) Refusal
+glyphs_in t = glyphs_said (table_bits t) [] (table_streams t)
 
 -- All that glyphs have is laid from place 0 on, and their records too if the list of points has room.
 pub record RunLaid (gs : List Glyph) (before after : Contents) : Type 0 where

@@ -6,8 +6,8 @@ ghost use Rattle.glyph.specs.Laying.{laid};
 ghost use Rattle.glyph.specs.Records.{behind, needed, record_of};
 ghost use Rattle.unpack.specs.Contents.{in_slots, SameLent};
 ghost use Rattle.unpack.specs.Cursors.{left};
-ghost use Rattle.unpack.specs.Glyphs.{glyph_said, glyphs_said};
-ghost use Rattle.unpack.specs.Runs.{RunLaid, table_bits, table_streams};
+ghost use Rattle.unpack.specs.Glyphs.{glyph_said};
+ghost use Rattle.unpack.specs.Runs.{glyphs_in, RunLaid};
 ghost use Rattle.unpack.specs.Taken.{GlyphLaid, taken_behind};
 
 use crate::glyphs::{read_glyph, record_of};
@@ -21,7 +21,7 @@ use woff2::BitSlice;
 /// Reads every glyph of a table, and lays each behind the one before. Returns how many places they need.
 pub(crate) fn read_glyphs(sound: &SoundTable<'_>, slots: &mut Slots<'_>) -> Result<Places, Refusal>
     ensures same_lent { SameLent slots.old slots.new }
-    ensures read { MatchResult (glyphs_said (table_bits sound.now.table) [] (table_streams sound.now.table)) (λ gs. (result ≡ Ok (needed gs)) × RunLaid gs (in_slots slots.old) (in_slots slots.new)) (λ e. result ≡ Err e) }
+    ensures read { MatchResult (glyphs_in sound.now.table) (λ gs. (result ≡ Ok (needed gs)) × RunLaid gs (in_slots slots.old) (in_slots slots.new)) (λ e. result ≡ Err e) }
 {
     let mut streams = Streams::new(sound);
     let bitmap = BitSlice::new(sound.table.bbox_bitmap.data());

@@ -1,10 +1,10 @@
 //! A table into the lists.
-ghost use Rattle.std.specs.Prelude.{◌≡◌, [], Ok, Err, MatchResult};
+ghost use Rattle.std.specs.Prelude.{◌≡◌, Ok, Err, MatchResult};
 ghost use Rattle.glyph.specs.Records.{fitting, needed, ReadInto};
 ghost use Rattle.read.specs.Answers.{then};
 ghost use Rattle.unpack.specs.Contents.{contents};
-ghost use Rattle.unpack.specs.Glyphs.{glyphs_said, unpacked};
-ghost use Rattle.unpack.specs.Runs.{ListsLaid, RunLaid, table_bits, table_streams};
+ghost use Rattle.unpack.specs.Glyphs.{unpacked};
+ghost use Rattle.unpack.specs.Runs.{glyphs_in, ListsLaid, RunLaid};
 
 use crate::run::read_glyphs;
 use crate::slots::Slots;
@@ -22,7 +22,7 @@ pub fn read_table(data: &[u8], lists: &mut Lists) -> Result<u16, Refusal>
 
 // The first walk only measures: it has no places to lay anything into.
 fn fill(sound: &SoundTable<'_>, lists: &mut Lists) -> Result<u16, Refusal>
-    ensures { ReadInto (then (glyphs_said (table_bits sound.now.table) [] (table_streams sound.now.table)) (fitting lists.old)) lists.old result lists.new }
+    ensures { ReadInto (then (glyphs_in sound.now.table) (fitting lists.old)) lists.old result lists.new }
 {
     let glyphs = sound.table.header.num_glyphs;
     let needed = read_glyphs(sound, &mut Slots::none())?;
@@ -37,7 +37,7 @@ fn fill(sound: &SoundTable<'_>, lists: &mut Lists) -> Result<u16, Refusal>
 }
 
 fn lay_glyphs(sound: &SoundTable<'_>, lists: &mut Lists) -> Result<Places, Refusal>
-    ensures { MatchResult (glyphs_said (table_bits sound.now.table) [] (table_streams sound.now.table)) (λ gs. (result ≡ Ok (needed gs)) × ListsLaid gs lists.old lists.new) (λ e. result ≡ Err e) }
+    ensures { MatchResult (glyphs_in sound.now.table) (λ gs. (result ≡ Ok (needed gs)) × ListsLaid gs lists.old lists.new) (λ e. result ≡ Err e) }
 {
     lay_slices(
         sound,
@@ -59,7 +59,7 @@ fn lay_slices(
     components: &mut [Component],
     instructions: &mut [u8],
 ) -> Result<Places, Refusal>
-    ensures { MatchResult (glyphs_said (table_bits sound.now.table) [] (table_streams sound.now.table)) (λ gs. (result ≡ Ok (needed gs)) × RunLaid gs (contents records.old ends.old points.old components.old instructions.old) (contents records.new ends.new points.new components.new instructions.new)) (λ e. result ≡ Err e) }
+    ensures { MatchResult (glyphs_in sound.now.table) (λ gs. (result ≡ Ok (needed gs)) × RunLaid gs (contents records.old ends.old points.old components.old instructions.old) (contents records.new ends.new points.new components.new instructions.new)) (λ e. result ≡ Err e) }
 {
     let mut slots = Slots {
         records,
