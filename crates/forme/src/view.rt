@@ -7,6 +7,7 @@ ghost use Rattle.glyph.specs.Glyphs.{Glyph};
 use crate::forme::Forme;
 use glyph::{GlyphView, Lists};
 
+// Apart from `Forme::glyph`: tried as one function, and the proof did not close.
 fn look_up<'a>(forme: &Forme, index: usize, lists: &'a Lists) -> Option<GlyphView<'a>>
     ensures { Asked forme.now lists.now index result }
 {

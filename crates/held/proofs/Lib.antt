@@ -1,4 +1,5 @@
 pub mod Boxed
+pub mod Chaining
 pub mod Holding
 pub mod Lying
 pub mod Passing

@@ -47,18 +47,22 @@ fn component_sound(component: Component) -> bool
         && scale_fits(component.flags, component.scale)
 }
 
+fn each_has_more(components: &[Component]) -> bool
+    ensures { result ≡ list_all (λ c. has c.flags 0x0020) components.now }
+{
+    components
+        .iter()
+        .all(|component| has(component.flags, MORE_COMPONENTS))
+}
+
 // Just the last component lacks `MORE_COMPONENTS`.
 fn chained(components: &[Component]) -> bool
     ensures { result ≡ chained_on true components.now }
 {
-    let mut more = true;
-    for component in components {
-        if !more {
-            return false;
-        }
-        more = has(component.flags, MORE_COMPONENTS);
+    match components.split_last() {
+        Some((last, others)) => !has(last.flags, MORE_COMPONENTS) && each_has_more(others),
+        None => false,
     }
-    !more
 }
 
 fn marked(components: &[Component]) -> bool

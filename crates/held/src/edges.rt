@@ -4,6 +4,7 @@ ghost use Rattle.std.specs.Prelude.{◌≡◌};
 
 use glyph::Lists;
 
+// Apart from `left_edge`: tried as one function, and the proof did not close.
 fn edge_at(lists: &Lists, index: usize) -> i16
     ensures { result ≡ left_edge lists.now index }
 {

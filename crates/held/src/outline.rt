@@ -17,6 +17,7 @@ fn step_fits(last: Point, point: Point) -> bool
     in_range(last.x, point.x) && in_range(last.y, point.y)
 }
 
+// A loop and no chain of calls: each step goes from the point before.
 fn steps_fit(points: &[Point]) -> bool
     ensures { result ≡ steps_fit origin points.now }
 {

@@ -60,7 +60,7 @@ fn record_held(at: Places, glyph_record: GlyphRecord, lists: &Lists) -> bool
     parts_lie(at, glyph_record, lists) && glyph_record.view(lists).is_some_and(glyph_sound)
 }
 
-// The first free places behind the glyph of a record.
+// The first free places behind the glyph of a record. By the `requires`, each `as` is exact.
 fn past(glyph_record: GlyphRecord) -> Places
     requires { (end glyph_record.ends < 2 ^ 32) × ((end glyph_record.points < 2 ^ 32) × ((end glyph_record.components < 2 ^ 32) × (end glyph_record.instructions < 2 ^ 32))) }
     ensures { result ≡ past glyph_record }
@@ -73,6 +73,7 @@ fn past(glyph_record: GlyphRecord) -> Places
     }
 }
 
+// A loop and no chain of calls: where a record has to lie is known by the record before it.
 fn records_held(records: &[GlyphRecord], lists: &Lists) -> bool
     ensures { result ≡ records_held start records.now lists.now }
 {
