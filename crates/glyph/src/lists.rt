@@ -19,7 +19,7 @@ impl Point {
     };
 }
 
-#[derive(Clone, Copy, Default)]
+#[derive(Clone, Copy, Default, PartialEq, Eq)]
 pub enum GlyphKind {
     #[default]
     Empty,

@@ -23,6 +23,11 @@ is_composite Empty = false
 is_composite Simple = false
 is_composite Composite = true
 
+abbrev pub is_kind : GlyphKind → GlyphKind → Bool
+is_kind Empty = is_empty
+is_kind Simple = is_simple
+is_kind Composite = is_composite
+
 -- A summary tells the least lengths of lists that have room for the glyphs.
 pub record Least (gs : List Glyph) (s : Summary) : Type 0 where
   pub records : s.kinds.empty + s.kinds.simple + s.kinds.composite ≡ length gs

@@ -1,6 +1,6 @@
 //! Sums over the glyphs of a face.
 ghost use Rattle.std.specs.Prelude.{◌≡◌, take, count_by};
-ghost use Rattle.listing.specs.Summaries.{is_composite, is_empty, is_simple, Summed};
+ghost use Rattle.listing.specs.Summaries.{is_composite, is_empty, is_kind, is_simple, Summed};
 
 use forme::Forme;
 use glyph::{GlyphKind, GlyphRecord, Lists};
@@ -52,17 +52,14 @@ fn count(records: &[GlyphRecord]) -> Kinds
     ensures composite { result.composite ≡ count_by (λ r. is_composite r.kind) records.now }
 {
     Kinds {
-        empty: records
-            .iter()
-            .filter(|r| matches!(r.kind, GlyphKind::Empty))
-            .count() as u64,
-        simple: records
-            .iter()
-            .filter(|r| matches!(r.kind, GlyphKind::Simple))
-            .count() as u64,
-        composite: records
-            .iter()
-            .filter(|r| matches!(r.kind, GlyphKind::Composite))
-            .count() as u64,
+        empty: count_of(records, GlyphKind::Empty),
+        simple: count_of(records, GlyphKind::Simple),
+        composite: count_of(records, GlyphKind::Composite),
     }
+}
+
+fn count_of(records: &[GlyphRecord], kind: GlyphKind) -> u64
+    ensures { result ≡ count_by (λ r. is_kind kind r.kind) records.now }
+{
+    records.iter().filter(|r| r.kind == kind).count() as u64
 }
