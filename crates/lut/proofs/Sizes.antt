@@ -14,19 +14,8 @@ y_shifted t n delta = n % (1 * 2 ^ t.y_bits % 4294967296) + delta
 abbrev Bytes : List ℕ → Type 0
 Bytes bs = (i : ℕ) → get_or bs i 0 < 256
 
--- The bytes of a row, taken in one after the other.
-abbrev pub taken_in : List ℕ → ℕ
-taken_in bs = fold (λ (number : ℕ) (byte : ℕ). number * 256 % 4294967296 + byte) 0 bs
-
-few : (g : Group) → (1 ≤ bytes_in g) × (bytes_in g ≤ 4)
-few y_alone = (omega arith, omega arith)
-few x_alone = (omega arith, omega arith)
-few half_bytes = (omega arith, omega arith)
-few whole_bytes = (omega arith, omega arith)
-few twelve_bits = (omega arith, omega arith)
-few sixteen_bits = (omega arith, omega arith)
-
-as_number : (bs : List ℕ) → 1 ≤ length bs → length bs ≤ 4 → Bytes bs → taken_in bs ≡ number bs
+-- One to four bytes, taken in one after the other.
+pub as_number : (bs : List ℕ) → 1 ≤ length bs → length bs ≤ 4 → Bytes bs → fold (λ (number : ℕ) (byte : ℕ). number * 256 % 4294967296 + byte) 0 bs ≡ number bs
 as_number [] h k ok = absurd (omega arith)
 as_number (a ∷ []) h k ok = let e = ok 0 in omega arith
 as_number (a ∷ (b ∷ [])) h k ok = let e = ok 0 in let f = ok 1 in omega arith
@@ -50,9 +39,8 @@ y_held whole_bytes r bs e ok = let a = ok 0 in let b = ok 1 in rw e (omega arith
 y_held twelve_bits r bs e ok = let a = ok 0 in let b = ok 1 in let c = ok 2 in rw e (omega arith)
 y_held sixteen_bits r bs e ok = let a = ok 0 in let b = ok 1 in let c = ok 2 in let d = ok 3 in rw e (omega arith)
 
-pub said : (g : Group) (r : ℕ) (bs : List ℕ) (t : XYTriplet) (n dx dy : ℕ) → t ≡ row_by g r → n ≡ taken_in bs → dx ≡ t.delta_x → dy ≡ t.delta_y → length bs ≡ bytes_in g → Bytes bs → pair_by t.x_is_negative (x_shifted t n dx) t.y_is_negative (y_shifted t n dy) ≡ steps_by g r bs
-said g r bs t n dx dy same taken ex ey long ok =
-    let num : n ≡ number bs = taken ∙ as_number bs (omega (arith, few g)) (omega (arith, few g)) ok in
+pub said : (g : Group) (r : ℕ) (bs : List ℕ) (t : XYTriplet) (n dx dy : ℕ) → t ≡ row_by g r → n ≡ number bs → dx ≡ t.delta_x → dy ≡ t.delta_y → length bs ≡ bytes_in g → Bytes bs → pair_by t.x_is_negative (x_shifted t n dx) t.y_is_negative (y_shifted t n dy) ≡ steps_by g r bs
+said g r bs t n dx dy same num ex ey long ok =
     let x : x_shifted t n dx ≡ x_size g r bs =
     ap (x_shifted t n) ex ∙ (ap (λ (k : ℕ). x_shifted t k t.delta_x) num ∙ (ap (λ (u : XYTriplet). x_shifted u (number bs) u.delta_x) same ∙ x_held g r bs long ok))
     in

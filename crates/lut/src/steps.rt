@@ -1,6 +1,6 @@
 //! The steps that a row and its bytes say.
-ghost use Rattle.std.specs.Prelude.{◌≡◌, ◌+◌, ◌*◌, ◌%◌, length, Ok, Err, MatchBool, fold};
-ghost use Rattle.lut.specs.Rows.{row_of};
+ghost use Rattle.std.specs.Prelude.{◌≡◌, ◌≤◌, ◌%◌, length, Ok, Err, MatchBool};
+ghost use Rattle.lut.specs.Rows.{number, row_of};
 ghost use Rattle.lut.specs.Triplets.{bytes_in, group_of, step, step_fits, steps_said};
 ghost use Rattle.read.specs.declared.error.ParseError.TheVariants.{BadValue};
 
@@ -16,9 +16,10 @@ fn signed(falls: bool, size: u32) -> Result<i16, ParseError>
     i16::try_from(step).map_err(|_| ParseError::BadValue)
 }
 
-// The bytes as one number, the highest first.
+// One to four bytes as one number, the highest first.
 fn number_of(bytes: &[u8]) -> u32
-    ensures { result ≡ fold (λ number byte. number * 256 % 4294967296 + byte) 0 bytes.now }
+    requires { (1 ≤ length bytes.now) × (length bytes.now ≤ 4) }
+    ensures { result ≡ number bytes.now }
 {
     bytes
         .iter()
