@@ -14,6 +14,8 @@ use glyph::{GlyphRecord, Part, Places, Point, bounding_box};
 use read::error::ParseError;
 
 /// Reads the next glyph, whose bit in the bitmap of boxes is `boxed`, and lays it from the places `at` on.
+// Streams, slots and places are separate parameters: what reads a field of a glyph borrows its streams and its list
+// alone, so a struct of all three would be taken apart at every such call.
 pub(crate) fn read_glyph(
     streams: &mut Streams<'_>,
     boxed: bool,

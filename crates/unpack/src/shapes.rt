@@ -60,7 +60,8 @@ pub(crate) fn read_simple(
     })
 }
 
-// The instructions of a composite glyph, which has them only if a component says so. An `if`, as for the box.
+// The instructions of a composite glyph, which has them only if a component says so. An `if`: the contract of
+// `bool::then` does not say that where none says so the streams and the list are as they were.
 fn read_marked(
     mark: bool,
     glyphs: &mut ReadCtxt<'_>,

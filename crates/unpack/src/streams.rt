@@ -1,5 +1,6 @@
 //! The streams of a table as they are read.
 ghost use Rattle.std.specs.Prelude.{◌≡◌, ◌^◌, ◌<◌, length};
+ghost use Rattle.unpack.specs.Runs.{table_streams};
 
 use crate::sound::SoundTable;
 use read::ReadCtxt;
@@ -18,8 +19,8 @@ pub(crate) struct Streams<'a> {
 }
 
 impl<'a> Streams<'a> {
+    // Not at the top: a struct with a ghost field imports each `ghost use` from there, and `Cursors` names this struct.
     ghost use Rattle.unpack.specs.Cursors.{left};
-    ghost use Rattle.unpack.specs.Runs.{table_streams};
 
     /// The streams of a table, before anything is read.
     pub(crate) fn new(sound: &SoundTable<'a>) -> Streams<'a>
