@@ -1,5 +1,6 @@
 -- Where the bits of a bitmap stand.
-use Rattle.std.proofs.Common.{◌≡◌, ℕ, zero, suc, ◌*◌, ◌/◌, ◌%◌, ◌<◌, ◌≤◌, List, [], ◌∷◌, length, get_or, None, refl, arith}
+use Rattle.std.proofs.Common.{◌≡◌, ℕ, zero, suc, ◌-◌, ◌*◌, ◌/◌, ◌%◌, ◌^◌, ◌<◌, ◌≤◌, List, [], ◌∷◌, length, get_or, None, Some, refl, ap, ◌∙◌, arith, eqb, bit_and}
+use Rattle.std.proofs.lemmas.Nat.{and_mask}
 use Rattle.std.specs.List.{slice_get}
 use Rattle.std.proofs.lemmas.Option.{slice_get_past}
 use Rattle.woff2.specs.Bits.{bits, bits_of}
@@ -25,3 +26,18 @@ bit_at (b ∷ bs) (suc (suc (suc (suc (suc (suc (suc (suc i)))))))) h =
     let q : suc (suc (suc (suc (suc (suc (suc (suc i))))))) / 8 ≡ suc (i / 8) = omega arith in
     let r : suc (suc (suc (suc (suc (suc (suc (suc i))))))) % 8 ≡ i % 8 = omega arith in
     rw (q, r) (bit_at bs i (omega arith))
+
+-- The bit of a byte, shifted to the end and masked.
+shifted : (b p : ℕ) → p < 8 → Some (eqb (b / 2 ^ (7 - p) % 2) 1) ≡ slice_get (bits_of b) p
+shifted b zero h = refl
+shifted b (suc zero) h = refl
+shifted b (suc (suc zero)) h = refl
+shifted b (suc (suc (suc zero))) h = refl
+shifted b (suc (suc (suc (suc zero)))) h = refl
+shifted b (suc (suc (suc (suc (suc zero))))) h = refl
+shifted b (suc (suc (suc (suc (suc (suc zero)))))) h = refl
+shifted b (suc (suc (suc (suc (suc (suc (suc zero))))))) h = refl
+shifted b (suc (suc (suc (suc (suc (suc (suc (suc p)))))))) h = absurd (omega arith)
+
+pub masked : (b p : ℕ) → p < 8 → Some (eqb (bit_and (b / 2 ^ (7 - p)) 1) 1) ≡ slice_get (bits_of b) p
+masked b p h = ap (λ (k : ℕ). Some (eqb k 1)) (and_mask (b / 2 ^ (7 - p)) 1) ∙ shifted b p h

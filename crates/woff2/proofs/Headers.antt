@@ -1,6 +1,8 @@
 -- A header read field by field is the one that its bytes say.
 use Rattle.std.proofs.Common.{◌≡◌, ℕ, ◌+◌, ◌<◌, ◌≤◌, leb, List, length, get_or, take, drop, Ok, Err, MatchBool, Result, refl, ap, ◌∙◌, arith}
 use borrow.Author.Tests.{lt-leb}
+use Rattle.std.specs.Result.{IsErrAnd}
+use Rattle.std.proofs.lemmas.Result.{err_from_is_err_and}
 use Rattle.std.proofs.lemmas.List.{drop-drop, get_or-drop, get_or-take, length-drop}
 use Rattle.binary.specs.Bytes.{u16_at, u16_said, u32_at, u32_said}
 use Rattle.read.proofs.Taking.{missed, took}
@@ -45,13 +47,6 @@ module _ (whole before after : List ℕ) (k : ℕ) (at : At whole k before) wher
       let b3 = byte_at whole k 4 3 (k + 3) (omega arith) (omega arith) in
       (omega (arith, got.0), got.1)
 
-  -- A field that is not there whole.
-  pub short : (n : ℕ) (decode : List ℕ → ℕ) (d : ParseError) (r : Result GlyfHeader ParseError) (said : GlyfHeader) → k + n ≤ 36 → Takes n (Says decode) BadEof before (Err d) after → r ≡ Err d → MatchBool (leb 36 (length whole)) (r ≡ Ok said) (r ≡ Err BadEof)
-  short n decode d r said h t e =
-      let m = missed n (Says decode) BadEof before after d t in
-      let long = ap length at.rest ∙ length-drop k whole in
-      rw (lt-leb 36 (length whole) (omega (arith, m.0, at.inside))) (e ∙ ap (λ (x : ParseError). Err x) m.1)
-
 -- The first fields, up to the size of the point counts.
 pub record Points (whole : List ℕ) (num format contours points : ℕ) (left : List ℕ) : Type 0 where
   pub num_said : num ≡ u16_at whole 4
@@ -60,8 +55,8 @@ pub record Points (whole : List ℕ) (num format contours points : ℕ) (left : 
   pub points_said : points ≡ u32_at whole 12
   pub here : At whole 16 left
 
-pub up_to_points : (whole b1 b2 b3 b4 b5 : List ℕ) (reserved num format contours points : ℕ) → Takes 4 (Says u32_said) BadEof whole (Ok reserved) b1 → Takes 2 (Says u16_said) BadEof b1 (Ok num) b2 → Takes 2 (Says u16_said) BadEof b2 (Ok format) b3 → Takes 4 (Says u32_said) BadEof b3 (Ok contours) b4 → Takes 4 (Says u32_said) BadEof b4 (Ok points) b5 → Points whole num format contours points b5
-up_to_points whole b1 b2 b3 b4 b5 reserved num format contours points t0 t1 t2 t3 t4 =
+pub up_to_points : {whole b5 : List ℕ} {num format contours points : ℕ} (b1 b2 b3 b4 : List ℕ) (reserved : ℕ) → Takes 4 (Says u32_said) BadEof whole (Ok reserved) b1 → Takes 2 (Says u16_said) BadEof b1 (Ok num) b2 → Takes 2 (Says u16_said) BadEof b2 (Ok format) b3 → Takes 4 (Says u32_said) BadEof b3 (Ok contours) b4 → Takes 4 (Says u32_said) BadEof b4 (Ok points) b5 → Points whole num format contours points b5
+up_to_points {whole} {b5} {num} {format} {contours} {points} b1 b2 b3 b4 reserved t0 t1 t2 t3 t4 =
     let start : At whole 0 whole = record { rest = refl; inside = omega arith } in
     let ignored = next_32 whole whole b1 0 start reserved t0 in
     let n = next_16 whole b1 b2 4 ignored.1 num t1 in
@@ -75,3 +70,15 @@ up_to_points whole b1 b2 b3 b4 b5 reserved num format contours points t0 t1 t2 t
       points_said = p.0;
       here = p.1;
     }
+
+-- One more size was read.
+pub then_size : {whole before after : List ℕ} {k : ℕ} (v : ℕ) → At whole k before → Takes 4 (Says u32_said) BadEof before (Ok v) after → At whole (k + 4) after
+then_size v at t = (next_32 _ _ _ _ at v t).1
+
+-- A size that is not there whole, with what the exit of its `?` returns.
+pub no_size : {whole before : List ℕ} {k : ℕ} (after : List ℕ) (d : ParseError) (r : Result GlyfHeader ParseError) (said : GlyfHeader) → At whole k before → k + 4 ≤ 36 → Takes 4 (Says u32_said) BadEof before (Err d) after → IsErrAnd r (λ e. e ≡ d) → MatchBool (leb 36 (length whole)) (r ≡ Ok said) (r ≡ Err BadEof)
+no_size {whole} {before} {k} after d r said at h t returned =
+    let m = missed 4 (Says u32_said) BadEof before after d t in
+    let long = ap length at.rest ∙ length-drop k whole in
+    let left = err_from_is_err_and r returned in
+    rw (lt-leb 36 (length whole) (omega (arith, m.0, at.inside))) (left.1 ∙ ap Err (left.2 ∙ m.1))

@@ -34,6 +34,7 @@ fn bit_at(bytes: &[u8], index: usize) -> Option<bool>
 }
 
 // The bit of a byte, counted from the highest.
+#[tactic(auto, using(crate::proofs::Bitmaps::masked))]
 fn bit(byte: u8, place: usize) -> bool
     requires { place < 8 }
     ensures { Some result ≡ slice_get (bits_of byte) place }

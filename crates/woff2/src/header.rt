@@ -23,6 +23,7 @@ pub struct GlyfHeader {
 }
 
 /// Where a stream begins in its table, and how many bytes it has.
+// Not glyph's Part: its place has 64 bits, since the sizes in a header may add up to more than any list has.
 #[derive(Clone, Copy)]
 pub struct Span {
     pub place: u64,

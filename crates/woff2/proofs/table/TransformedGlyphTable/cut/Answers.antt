@@ -1,18 +1,7 @@
-use Rattle.std.proofs.Common.{◌≡◌, length, take, drop, refl, ap, ◌∙◌, arith}
-use Rattle.std.proofs.lemmas.List.{length-drop, length-take}
-use Rattle.woff2.specs.Transformed.{bitmap_size, boxes_at, cut}
+use Rattle.std.proofs.Common.{take, drop, refl, ap, ◌∙◌}
+use Rattle.woff2.specs.Transformed.{bitmap_size, boxes_at}
 use Rattle.woff2.proofs.Streams.{cut_back, cut_front, stream_at}
 use Rattle.woff2.proofs.table.TransformedGlyphTable.cut.Goals as goal
-
-pub split_at-requires : goal.split_at-requires
-split_at-requires c =
-    let bs = c.args.data.now in
-    let h = c.args.header in
-    let whole : length c.stream.result.now ≡ length (cut (boxes_at h) h.bbox_size bs) =
-    ap length (c.stream.ensures ∙ ap (stream_at bs 5) c.spans.ensures)
-    in
-    let long : h.bbox_size ≡ length (cut (boxes_at h) h.bbox_size bs) = simp (length-take, length-drop) (omega (arith, c.requires)) in
-    omega (arith, c.requires, c.bitmap_size.ensures.size)
 
 pub returns : goal.returns
 returns c =
