@@ -12,7 +12,7 @@ use glyph::{Component, CompositeGlyphArgument, CompositeGlyphScale};
 use read::ReadCtxt;
 use read::error::ParseError;
 
-// Masks and no enum: a component keeps every bit that a font may set, also those that have no name here.
+// Masks over a plain number: a component's flags are public, and contracts read them as the number that they are.
 /// The arguments are words and not bytes.
 pub const ARG_1_AND_2_ARE_WORDS: u16 = 0x0001;
 /// The arguments are a signed shift in x and y.
@@ -30,7 +30,7 @@ pub const WE_HAVE_INSTRUCTIONS: u16 = 0x0100;
 /// Bits outside these say nothing.
 pub const KEPT_FLAGS: u16 = 0x1fef;
 
-/// Whether one of the flags of a mask is set.
+/// Whether at least one of the flags of a mask is set.
 pub fn has(flags: u16, mask: u16) -> bool
     ensures { result ≡ has flags mask }
 {
