@@ -1,12 +1,13 @@
 -- Where the streams of a table lie.
-use Rattle.std.proofs.Common.{◌≡◌, ℕ, ◌+◌, ◌-◌, ◌≤◌, List, get_or, take, drop, ap, ◌∙◌, arith}
+use Rattle.std.proofs.Common.{◌≡◌, ℕ, ◌+◌, ◌-◌, ◌≤◌, List, take, drop, None, ap, ◌∙◌, arith}
 use Rattle.std.proofs.lemmas.List.{drop-drop, drop-take, take-take}
-use Rattle.woff2.specs.Transformed.{cut}
-use Rattle.woff2.specs.declared.header.Span.{Span}
+use Rattle.std.proofs.lemmas.Bool.Decides.{nat_tests}
+use Rattle.woff2.specs.Transformed.{bitmap_size, cut, streams_end, streams_fault}
+use Rattle.woff2.specs.declared.header.GlyfHeader.{GlyfHeader}
 
--- The stream at the index `k`.
-abbrev pub stream_at : List ℕ → ℕ → List Span → List ℕ
-stream_at bs k spans = cut (get_or spans k (record { place = 0; size = 0 })).place (get_or spans k (record { place = 0; size = 0 })).size bs
+-- Where nothing is wrong, all streams lie inside the table, and the bitmap inside the boxes.
+pub no_fault : (h : GlyfHeader) (len : ℕ) → streams_fault h len ≡ None → (streams_end h ≤ len) × (bitmap_size h.num_glyphs ≤ h.bbox_size)
+no_fault h len e = grind (arith, nat_tests)
 
 module _ (bs : List ℕ) (place size n : ℕ) (inside : n ≤ size) where
   pub cut_front : take n (cut place size bs) ≡ cut place n bs

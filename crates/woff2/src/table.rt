@@ -42,6 +42,7 @@ impl<'a> TransformedGlyphTable<'a> {
         Ok(TransformedGlyphTable::cut(header, data))
     }
 
+    #[tactic(auto, using(crate::proofs::Streams::cut_front, crate::proofs::Streams::cut_back))]
     fn cut(header: GlyfHeader, data: &'a [u8]) -> TransformedGlyphTable<'a>
         requires { (streams_end header ≤ length «data».now) × (bitmap_size header.num_glyphs ≤ header.bbox_size) }
         ensures { Streams header «data».now result }
