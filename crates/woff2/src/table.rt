@@ -30,13 +30,6 @@ impl<'a> TransformedGlyphTable<'a> {
     pub fn read(data: &'a [u8]) -> Result<TransformedGlyphTable<'a>, ParseError>
         ensures { TakenApart «data».now result }
     {
-        TransformedGlyphTable::take_apart(data)
-    }
-
-    // Apart from `read`, since its proof needs answers: an edit of that one is then refused at its own place.
-    fn take_apart(data: &'a [u8]) -> Result<TransformedGlyphTable<'a>, ParseError>
-        ensures { TakenApart «data».now result }
-    {
         let header = GlyfHeader::read(data)?;
         header.check_streams(data.len())?;
         Ok(TransformedGlyphTable::cut(header, data))
