@@ -1,4 +1,5 @@
-//! The sizes of the kinds of field, in bytes, for those that have no kind at hand. Each is the `SIZE` of its kind.
+//! The sizes of the kinds of field, in bytes.
+// Public names, which stay. Each is the `SIZE` of its kind.
 pub const U8: usize = 1;
 
 pub const I8: usize = 1;

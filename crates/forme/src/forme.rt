@@ -4,6 +4,7 @@ ghost use Rattle.std.specs.Prelude.{◌≡◌};
 
 /// Type locked up for printing is a forme. Here it is the numbers that say what the lists hold: how many glyphs, and,
 /// once it is fitted, how many full metrics and how many bearings behind them.
+// The lists are the caller's and no part of a forme.
 #[derive(Drop)]
 pub struct Forme {
     pub(crate) glyphs: u32,

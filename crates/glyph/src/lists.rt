@@ -28,7 +28,7 @@ pub enum GlyphKind {
 }
 
 /// A part of a list: where it begins, and how many places it has.
-// Numbers and no slice: a record lies in one of the lists that its parts are of, and the caller owns them all.
+// Numbers and no slice: a record lies in a list beside those that its parts are of, and the caller owns them all.
 #[derive(Clone, Copy, Default)]
 pub struct Part {
     pub start: u32,

@@ -5,7 +5,7 @@ use crate::component::Component;
 use crate::lists::{GlyphKind, GlyphRecord, Lists, Point};
 use binary::BoundingBox;
 
-/// A glyph, with its parts of the lists.
+/// A glyph, with its parts of the lists. They are shown whatever its kind, as its record has them.
 #[derive(Clone, Copy)]
 pub struct GlyphView<'a> {
     pub kind: GlyphKind,

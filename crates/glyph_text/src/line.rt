@@ -32,6 +32,7 @@ fn show_simple<W: fmt::Write>(view: GlyphView<'_>, f: &mut fmt::Formatter<W>) ->
     )
 }
 
+// What it has differs from what a simple glyph has, and so do the words for it.
 fn show_composite<W: fmt::Write>(view: GlyphView<'_>, f: &mut fmt::Formatter<W>) -> fmt::Result {
     f.write_str("composite ")?;
     show_box(view.bbox, f)?;

@@ -20,6 +20,7 @@ fn room_for(header: &GlyfHeader, table_len: usize) -> Room {
         points: table_len.min(header.flag_size as usize),
         components: table_len.min((header.composite_size / LEAST_COMPONENT) as usize),
         instructions: table_len.min(header.instruction_size as usize),
+        // No metrics are read.
         full: 0,
         tail: 0,
     }

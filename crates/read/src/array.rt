@@ -37,10 +37,11 @@ impl<'a, T: ReadUnchecked> Model for ReadArrayIter<'a, T> {
 
 impl<'a, T: ReadUnchecked> ReadArray<'a, T> {
     /// How many fields there are.
+    #[tactic(auto, using(crate::proofs::Arrays::fields_length))]
     pub fn len(&self) -> usize
         ensures { result ≡ length self.now }
     {
-        whole_fields::<T>(self.bytes)
+        self.bytes.len() / T::SIZE
     }
 
     /// The field at an index, where there is one.
@@ -73,14 +74,6 @@ impl<'a, T: ReadUnchecked> Iterator for ReadArrayIter<'a, T> {
         self.bytes = rest;
         Some(T::read_unchecked(first))
     }
-}
-
-// How many whole fields some bytes hold.
-#[tactic(auto, using(crate::proofs::Arrays::fields_length))]
-fn whole_fields<T: ReadUnchecked>(bytes: &[u8]) -> usize
-    ensures { result ≡ length (fields T.SIZE T.decode bytes.now) }
-{
-    bytes.len() / T::SIZE
 }
 
 // Where the field at an index begins in `len` bytes. All of it is there.

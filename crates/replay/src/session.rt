@@ -19,6 +19,7 @@ impl Session {
         Session {
             heap,
             forme: Forme::new(),
+            // Made one by one, which cannot fail.
             lists: Lists {
                 records: Vec::new(heap),
                 ends: Vec::new(heap),

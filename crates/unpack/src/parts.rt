@@ -19,7 +19,7 @@ pub(crate) fn read_components(
     ensures none_more { length ctxt.new.rest.now ≤ length ctxt.old.rest.now }
     ensures read { MatchResult (components_said (suc (length ctxt.old.rest.now)) [] false ctxt.old.rest.now) (λ p. (result ≡ Ok (length p.0, p.1)) × (ctxt.new.rest.now ≡ p.2) × (components.new ≡ laid at p.0 components.old) × (length ctxt.new.rest.now + length p.0 ≤ length ctxt.old.rest.now)) (λ e. result ≡ Err e) }
 {
-    // Only its flags tell whether a component is the last, so no range counts them.
+    // A loop that yields the mark by `break`: only its flags tell whether a component is the last.
     let mut count: usize = 0;
     let mut have_instructions = false;
     let mark = loop {

@@ -55,6 +55,7 @@ pub(crate) fn read_simple(
         bbox,
         ends: contours,
         points: count,
+        // A simple glyph has no components.
         components: 0,
         instructions: hints,
     })
@@ -102,6 +103,7 @@ pub(crate) fn read_composite(
     Ok(Taken {
         kind: GlyphKind::Composite,
         bbox: Some(bbox),
+        // A composite glyph has no outline.
         ends: 0,
         points: 0,
         components: count as u32,

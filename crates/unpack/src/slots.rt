@@ -2,6 +2,8 @@
 use glyph::{Component, GlyphRecord, Point};
 
 /// Where glyphs are laid: the lists as slices, or none of their places for a walk that only measures.
+// `Lists` owns its lists and has two more. That the same slices stay lent is a clause of its own in what lays into them:
+// `in_slots` tells what they hold, and not which they are.
 #[derive(Drop)]
 pub(crate) struct Slots<'a> {
     pub(crate) records: &'a mut [GlyphRecord],

@@ -6,6 +6,7 @@ use crate::sound::SoundTable;
 use read::ReadCtxt;
 
 /// What is left to read of each stream.
+// A cursor beside each scope of the table, which stays whole: both walks begin from it.
 #[derive(Clone, Copy)]
 pub(crate) struct Streams<'a> {
     pub(crate) contours: ReadCtxt<'a>,

@@ -38,6 +38,7 @@ impl GlyfHeader {
         GlyfHeader::read_fields(&mut ReadScope::new(data).ctxt())
     }
 
+    // Apart from `read`: its contract speaks of the cursor.
     fn read_fields(ctxt: &mut ReadCtxt<'_>) -> Result<GlyfHeader, ParseError>
         ensures { MatchBool (nat_le 36 (length ctxt.old.rest.now)) (result ≡ Ok (header_said ctxt.old.rest.now)) (result ≡ Err BadEof) }
     {
