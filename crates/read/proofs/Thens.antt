@@ -8,11 +8,6 @@ module _ {A B E : Type 0} where
   then_accepted (Ok x) next y h = (x, refl, h)
   then_accepted (Err e) next y h = let z : ◌≡◌ {A = ℕ} 0 1 = cc in absurd (omega arith)
 
--- A chain whose later link accepts everything was refused at its first.
-pub refused_first : {A B E : Type 0} (s : Result A E) (f : A → B) (d : E) → then s (λ x. Ok (f x)) ≡ Err d → s ≡ Err d
-refused_first (Ok x) f d h = let z : ◌≡◌ {A = ℕ} 0 1 = cc in absurd (omega arith)
-refused_first (Err e) f d h = cc
-
 pub test_passed : {A E : Type 0} (b : Bool) (r : Result A E) (e : E) (y : A) → cond b r (Err e) ≡ Ok y → (b ≡ true) × (r ≡ Ok y)
 test_passed true r e y h = (refl, h)
 test_passed false r e y h = let z : ◌≡◌ {A = ℕ} 0 1 = cc in absurd (omega arith)

@@ -1,16 +1,14 @@
 -- A glyph of each kind, from what was read of each stream.
-use Rattle.std.proofs.Common.{◌≡◌, ℕ, suc, ◌+◌, ◌≤◌, Bool, true, false, cond, List, [], length, take, drop, Some, None, Ok, Err, Option, Result, sym, refl, ap, ◌∙◌, arith, MatchResult}
+use Rattle.std.proofs.Common.{◌≡◌, ℕ, ◌≤◌, Bool, true, false, cond, List, [], length, take, drop, Some, None, Ok, Err, Option, Result, sym, refl, ap, ◌∙◌, arith, MatchResult}
 use Rattle.binary.specs.declared.BoundingBox.{BoundingBox}
 use Rattle.glyph.specs.Bounds.{bounds}
-use Rattle.glyph.specs.Glyphs.{composite, simple}
+use Rattle.glyph.specs.Glyphs.{simple}
 use Rattle.glyph.specs.Laying.{laid}
-use Rattle.glyph.specs.declared.lists.GlyphKind.TheVariants.{Composite, Simple}
+use Rattle.glyph.specs.declared.lists.GlyphKind.TheVariants.{Simple}
 use Rattle.glyph.specs.declared.places.Places.{Places}
-use Rattle.glyph.specs.declared.component.Component.{Component}
 use Rattle.glyph.specs.declared.lists.Point.{Point}
 use Rattle.read.specs.Answers.{front}
 use Rattle.read.specs.declared.error.ParseError.{ParseError}
-use Rattle.unpack.specs.Composites.{components_said}
 use Rattle.read.proofs.Thens.{front_is, then_accepted}
 use Rattle.std.proofs.lemmas.List.{length-take-le}
 use Rattle.unpack.proofs.Judged.{same_ok, told, when_accepted}
@@ -18,7 +16,7 @@ use Rattle.unpack.proofs.Lengths.{ends_length, points_length}
 use Rattle.unpack.proofs.Rested.{rest, same_rest, same_taken}
 use Rattle.unpack.specs.declared.taken.Taken.{Taken}
 use Rattle.unpack.specs.Contents.{Contents}
-use Rattle.unpack.specs.Glyphs.{box_front, box_or, composite_said, marked_instructions, own_box, simple_said}
+use Rattle.unpack.specs.Glyphs.{box_front, box_or, simple_said}
 use Rattle.unpack.specs.Hints.{instructions_said}
 use Rattle.unpack.specs.Outlines.{ends_said, points_said}
 use Rattle.glyph.specs.Outlines.{origin}
@@ -69,48 +67,4 @@ module _ (boxed : Bool) (c : ℕ) (s s' : Rest) (at : Places) (count n hints : �
         record { ends_laid = a.2.2; points_laid = d.2.2; components_laid = same_parts; hints_laid = i.2.3 },
         same_records,
         omega (arith, ap length kept_composites),
-      )
-
-module _ (boxed : Bool) (s : Rest) (c : List Component × Bool × List ℕ) (parts : components_said (suc (length s.composites)) [] false s.composites ≡ Ok c) where
-  module _ (i : List ℕ × List ℕ × List ℕ) (hints : marked_instructions c.1 s.glyphs s.instructions ≡ Ok i) where
-    pub composite_read : (b : BoundingBox × List ℕ) → own_box boxed s.boxes ≡ Ok b → composite_said boxed s ≡ Ok (composite b.0 c.0 i.0, record { contours = s.contours; points = s.points; flags = s.flags; glyphs = i.1; composites = c.2; boxes = b.1; instructions = i.2 })
-    composite_read b h = rw (parts, hints, h) refl
-
-module _ (bs : List ℕ) where
-  pub own_box_read : (boxed : Bool) (q : Option BoundingBox × List ℕ) (box : BoundingBox) → box_field boxed bs ≡ Ok q → Some box ≡ q.0 → (boxed ≡ true) × (own_box boxed bs ≡ Ok (box, q.1))
-  own_box_read true q box h e =
-      let a = then_accepted (box_front bs) (λ p. Ok (Some p.0, p.1)) q h in
-      let f = a.2 in
-      let same : a.0.0 ≡ box = cc in
-      let left : a.0.1 ≡ q.1 = cc in
-      (refl, a.1 ∙ (ap (λ (x : BoundingBox). Ok (x, a.0.1)) same ∙ ap (λ (r : List ℕ). Ok (box, r)) left))
-  own_box_read false q box h e = let z : ◌≡◌ {A = ℕ} 0 1 = cc in absurd (omega arith)
-
--- A composite glyph that was read and laid.
-module _ (boxed mark : Bool) (s s' : Rest) (at : Places) (count hints : ℕ) (box : BoundingBox) (got : Option BoundingBox) (before after : Contents) where
-  abbrev composite_taken : Taken
-  composite_taken =
-      record { kind = Composite; bbox = Some box; ends = 0; points = 0; components = count; instructions = hints }
-
-  pub composite_answer : MatchResult (components_said (suc (length s.composites)) [] false s.composites) (λ p. (◌≡◌ {A = Result (ℕ × Bool) ParseError} (Ok (count, mark)) (Ok (length p.0, p.1))) × (s'.composites ≡ p.2) × (after.components ≡ laid at.components p.0 before.components) × (length s'.composites + length p.0 ≤ length s.composites)) (λ e. ◌≡◌ {A = Result (ℕ × Bool) ParseError} (Ok (count, mark)) (Err e)) → MatchResult (marked_instructions mark s.glyphs s.instructions) (λ p. (◌≡◌ {A = Result ℕ ParseError} (Ok hints) (Ok (length p.0))) × (s'.glyphs ≡ p.1) × (s'.instructions ≡ p.2) × (after.instructions ≡ laid at.instructions p.0 before.instructions)) (λ e. ◌≡◌ {A = Result ℕ ParseError} (Ok hints) (Err e)) → MatchResult (box_field boxed s.boxes) (λ p. (◌≡◌ {A = Result (Option BoundingBox) ParseError} (Ok got) (Ok p.0)) × (s'.boxes ≡ p.1)) (λ e. ◌≡◌ {A = Result (Option BoundingBox) ParseError} (Ok got) (Err e)) → got ≡ Some box → s'.contours ≡ s.contours → s'.points ≡ s.points → s'.flags ≡ s.flags → after.ends ≡ before.ends → after.points ≡ before.points → after.records ≡ before.records → GlyphRead boxed (composite_said boxed s) at s s' before after (Ok composite_taken)
-  composite_answer h1 h2 h3 is_box kept_contours kept_points kept_flags same_ends same_points same_records =
-      let a = told _ _ _ h1 in
-      let i = told _ _ _ h2 in
-      let q = told _ _ _ h3 in
-      let told_both = same_ok (count, mark) (length a.0.0, a.0.1) a.2.0 in
-      let told_count : count ≡ length a.0.0 = ap (λ (p : ℕ × Bool). p.0) told_both in
-      let told_mark : mark ≡ a.0.1 = ap (λ (p : ℕ × Bool). p.1) told_both in
-      let told_hints : hints ≡ length i.0.0 = same_ok _ _ i.2.0 in
-      let told_box : Some box ≡ q.0.0 = sym is_box ∙ same_ok _ _ q.2.0 in
-      let b = own_box_read s.boxes boxed q.0 box q.1 told_box in
-      let read = ap (λ (m : Bool). marked_instructions m s.glyphs s.instructions) (sym told_mark) ∙ i.1 in
-      let e = composite_read boxed s a.0 a.1 i.0 read (box, q.0.1) b.1 in
-      let glyph = composite box a.0.0 i.0.0 in
-      let own : Some box ≡ cond boxed (Some box) None = rw b.0 refl in
-      when_accepted _ _ _ _ e (
-        ap Ok (same_taken composite_taken (taken_by boxed glyph) refl own refl refl told_count told_hints),
-        same_rest s' (rest s.contours s.points s.flags i.0.1 a.0.2 q.0.1 i.0.2) kept_contours kept_points kept_flags i.2.1 a.2.1 q.2.1 i.2.2,
-        record { ends_laid = same_ends; points_laid = same_points; components_laid = a.2.2; hints_laid = i.2.3 },
-        same_records,
-        a.2.3,
       )
