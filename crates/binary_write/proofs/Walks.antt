@@ -2,7 +2,7 @@
 use Rattle.std.proofs.Common.{◌≡◌, ℕ, suc, ◌*◌, ◌/◌, ◌<◌, ◌≤◌, Bool, true, false, leb, List, [], ◌∷◌, ◌++◌, length, Ok, Err, MatchBool, Result, refl, sym, ap, ◌∙◌, subst, ⊎_elim, mul-le-mul_right, suc-mul, div-lt_iff_lt-mul, zero-mul, div-mul-le_self, arith, le-leb, leb-false}
 use borrow.Author.Tests.{lt-leb}
 use Rattle.std.specs.List.{flat_map}
-use Rattle.std.proofs.lemmas.List.{append_assoc, append-nil, flat_map_more, length-append}
+use Rattle.std.proofs.lemmas.List.{append_assoc, flat_map_more, length-append}
 use Rattle.std.proofs.lemmas.Bool.{cases_lt}
 use Rattle.std.specs.Iterator.{AlwaysYields, YieldsFirst}
 use Rattle.std.specs.Iterator.Adapters.{copied_source, copied_steps}
@@ -14,14 +14,6 @@ use Rattle.write.specs.declared.error.WriteError.{WriteError}
 use Rattle.write.specs.declared.error.WriteError.TheVariants.{NoSpace}
 
 module _ {S : Type 0} (m : Meaning S) where
-  pub put_none : (s : S) → Put m [] s s
-  put_none s =
-      record {
-        behind = λ xs p. rw append-nil p;
-        more = omega arith;
-        less = omega arith;
-      }
-
   pub put_more : (bs cs : List ℕ) (s t u : S) → Put m bs s t → Put m cs t u → Put m (bs ++ cs) s u
   put_more bs cs s t u p q =
       let long = length-append bs cs in

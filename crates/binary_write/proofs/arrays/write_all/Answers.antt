@@ -1,21 +1,11 @@
-use Rattle.std.proofs.Common.{sym, ◌∙◌, subst, rules, leb-true}
+use Rattle.std.proofs.Common.{sym, ◌∙◌, subst, leb-true}
 use Rattle.std.specs.List.{flat_map}
 use Rattle.std.proofs.lemmas.Iterator.{YieldsList}
 use Rattle.std.proofs.lemmas.Iterator.Consumers.{YieldsList-turn, YieldsList-end}
 use Rattle.std.proofs.lemmas.List.{map-id}
 use Rattle.write.specs.Sinks.{Put}
-use Rattle.binary_write.proofs.Walks.{put_none, put_next, puts_ok, never_refused}
+use Rattle.binary_write.proofs.Walks.{puts_ok, never_refused}
 use Rattle.binary_write.proofs.arrays.write_all.Goals as goal
-
-pub loop-value-init : goal.loop-value-init
-loop-value-init g c = let p = put_none g.C.WriteContext.meaning c.args.ctxt.now in search rules
-
-pub loop-value-preserved : goal.loop-value-preserved
-loop-value-preserved g c =
-    let p =
-    put_next g.C.WriteContext.meaning g.T.ReadUnchecked.encode g.T.ReadUnchecked.SIZE g.met.T.ReadUnchecked.exact
-    c.loop-value.yielded c.in-Some.value _ _ _ c.loop-value.invariant.2 (c.in_ok-write.ensures)
-    in search rules
 
 pub returns-in_err-write : goal.returns-in_err-write
 returns-in_err-write g c =
