@@ -75,8 +75,8 @@ module _ {S : Type 0} (m : Meaning S) where
         omega (arith, suc-mul (length vs) size, joined_length vs, joined_length all, exact v, p.less, refusal_of (encode v) e t u q)
 
 -- What an array and a slice give to a loop.
-pub array_gives : {A : Type 0} (s xs : List A) → s ≡ xs → AlwaysYields (YieldsFirst (λ (t : List A). t)) (λ x. x) s xs
-array_gives s xs e = (YieldsList-from_first (λ x. x) (λ t. t) xs e).runs
+pub array_gives : {S A : Type 0} (left : S → List A) (s : S) (xs : List A) → left s ≡ xs → AlwaysYields (YieldsFirst left) (λ x. x) s xs
+array_gives left s xs e = (YieldsList-from_first (λ x. x) left xs e).runs
 
 pub slice_gives : {A : Type 0} (s : _) (xs : List A) → iter_rest (copied_source s) ≡ xs → AlwaysYields (copied_steps (iter_steps {A = A})) (λ x. x) s xs
 slice_gives s xs e = (YieldsList-from_copied (YieldsList-from_slice xs e)).runs

@@ -1,4 +1,5 @@
 //! Arrays and slices of fields written to any sink.
+ghost use Rattle.read.specs.Arrays.{fields};
 ghost use Rattle.write.specs.Sinks.{Puts};
 ghost use Rattle.std.specs.Iterator.{AlwaysYields, IsFinite};
 ghost use Rattle.std.specs.List.{flat_map};
@@ -15,7 +16,7 @@ pub fn write_array<T: WriteBinary, C: WriteContext>(
     ctxt: &mut C,
     array: &ReadArray<'_, T>,
 ) -> Result<(), WriteError>
-    ensures { Puts C.meaning (flat_map T.encode array.now) ctxt.old result ctxt.new }
+    ensures { Puts C.meaning (flat_map T.encode (fields T.SIZE T.decode array.now)) ctxt.old result ctxt.new }
 {
     write_all::<T, C, _>(ctxt, array.len(), array.iter())
 }

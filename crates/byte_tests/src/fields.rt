@@ -1,7 +1,7 @@
 //! Fields and arrays of them.
 use binary::{BoundingBox, F2Dot14, I8, I16Be, LongHorMetric, U8, U16Be, U32Be};
 use read::error::ParseError;
-use read::{ReadCtxt, ReadScope, ReadUnchecked};
+use read::{ReadArray, ReadCtxt, ReadScope, ReadUnchecked};
 use std::test::Fail;
 
 const BYTES: [u8; 8] = [0xff, 0xfc, 0x80, 0x00, 0x01, 0xf4, 0x7f, 0xff];
@@ -76,6 +76,21 @@ fn an_array_holds_whole_fields(rt: HostRuntime) -> Result<(), Fail> {
         sum = sum.wrapping_add(u32::from(value));
     }
     assert_eq!(rt; sum, 65532 + 32768 + 500 + 32767);
+    Ok(())
+}
+
+// What holds an array need not say that its kind is a field.
+#[derive(Drop)]
+struct Held<'a, T> {
+    array: ReadArray<'a, T>,
+}
+
+#[test]
+fn an_array_is_held_where_nothing_is_known_of_its_kind(rt: HostRuntime) -> Result<(), Fail> {
+    let held: Held<'_, U16Be> = Held {
+        array: cursor(&BYTES).read_array::<U16Be>(2)?,
+    };
+    assert_eq!(rt; held.array.get_item(1), Some(32768));
     Ok(())
 }
 

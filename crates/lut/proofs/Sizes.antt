@@ -1,5 +1,5 @@
 -- A row and its bytes hold the sizes that the rule of the row's group gives.
-use Rattle.std.proofs.Common.{◌≡◌, ℕ, ◌+◌, ◌*◌, ◌/◌, ◌%◌, ◌^◌, ◌<◌, ◌≤◌, List, [], ◌∷◌, length, fold, get_or, ap, ◌∙◌, arith}
+use Rattle.std.proofs.Common.{◌≡◌, ℕ, ◌+◌, ◌*◌, ◌/◌, ◌%◌, ◌^◌, ◌<◌, List, length, get_or, ap, ◌∙◌, arith}
 use Rattle.lut.specs.Rows.{number, row_by, x_delta, y_delta}
 use Rattle.lut.specs.declared.table.XYTriplet.{XYTriplet}
 use Rattle.lut.specs.Triplets.{bytes_in, Group, half_bytes, pair_by, sixteen_bits, steps_by, twelve_bits, whole_bytes, x_alone, x_size, y_alone, y_size}
@@ -13,15 +13,6 @@ y_shifted t n delta = n % (1 * 2 ^ t.y_bits % 4294967296) + delta
 
 abbrev Bytes : List ℕ → Type 0
 Bytes bs = (i : ℕ) → get_or bs i 0 < 256
-
--- One to four bytes, taken in one after the other.
-pub as_number : (bs : List ℕ) → 1 ≤ length bs → length bs ≤ 4 → Bytes bs → fold (λ (number : ℕ) (byte : ℕ). number * 256 % 4294967296 + byte) 0 bs ≡ number bs
-as_number [] h k ok = absurd (omega arith)
-as_number (a ∷ []) h k ok = let e = ok 0 in omega arith
-as_number (a ∷ (b ∷ [])) h k ok = let e = ok 0 in let f = ok 1 in omega arith
-as_number (a ∷ (b ∷ (c ∷ []))) h k ok = let e = ok 0 in let f = ok 1 in let g = ok 2 in omega arith
-as_number (a ∷ (b ∷ (c ∷ (d ∷ [])))) h k ok = let e = ok 0 in let f = ok 1 in let g = ok 2 in let i = ok 3 in omega arith
-as_number (a ∷ (b ∷ (c ∷ (d ∷ (e ∷ bs))))) h k ok = absurd (omega arith)
 
 pub x_held : (g : Group) (r : ℕ) (bs : List ℕ) → length bs ≡ bytes_in g → Bytes bs → x_shifted (row_by g r) (number bs) (x_delta g r) ≡ x_size g r bs
 x_held y_alone r bs e ok = let a = ok 0 in rw e (omega arith)

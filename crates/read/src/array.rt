@@ -1,5 +1,5 @@
 //! An array of fields, where it lies in the bytes.
-ghost use Rattle.std.specs.Prelude.{◌≡◌, ◌+◌, ◌*◌, ◌/◌, ◌<◌, ◌≤◌, List, [], ◌∷◌, length, Some, None, MatchOption};
+ghost use Rattle.std.specs.Prelude.{◌≡◌, ◌+◌, ◌*◌, ◌/◌, ◌<◌, ◌≤◌, ℕ, List, [], ◌∷◌, length, Some, None, MatchOption};
 ghost use Rattle.read.specs.Arrays.{fields};
 ghost use Rattle.std.specs.List.{slice_get};
 ghost use Rattle.std.specs.Iterator.{YieldsFirst, item_count};
@@ -9,44 +9,44 @@ use std::marker::{Model, PhantomData};
 
 /// An array of fields, all of one kind: as many as its bytes hold.
 #[derive(Drop)]
-pub struct ReadArray<'a, T: ReadUnchecked> {
+pub struct ReadArray<'a, T> {
     pub(crate) bytes: &'a [u8],
     pub(crate) kind: PhantomData<T>,
 }
 
-// A contract sees an array as the list of its fields.
-impl<'a, T: ReadUnchecked> Model for ReadArray<'a, T> {
-    ghost Value = { List T.HostType };
+// A contract sees an array as its bytes, and says `fields` of them: an array can be named where nothing is known of `T`.
+impl<'a, T> Model for ReadArray<'a, T> {
+    ghost Value = { List ℕ };
 
-    ghost view = { λ a. fields T.SIZE T.decode a.bytes.now };
+    ghost view = { λ a. a.bytes.now };
 }
 
 /// A walk over an array: the fields that are still to come.
 #[derive(Drop)]
-pub struct ReadArrayIter<'a, T: ReadUnchecked> {
+pub struct ReadArrayIter<'a, T> {
     bytes: &'a [u8],
     kind: PhantomData<T>,
 }
 
-// A contract sees a walk as the list of what is still to come.
-impl<'a, T: ReadUnchecked> Model for ReadArrayIter<'a, T> {
-    ghost Value = { List T.HostType };
+// A contract sees a walk as the bytes of what is still to come.
+impl<'a, T> Model for ReadArrayIter<'a, T> {
+    ghost Value = { List ℕ };
 
-    ghost view = { λ a. fields T.SIZE T.decode a.bytes.now };
+    ghost view = { λ a. a.bytes.now };
 }
 
 impl<'a, T: ReadUnchecked> ReadArray<'a, T> {
     /// How many fields there are.
     #[tactic(auto, using(crate::proofs::Arrays::fields_length))]
     pub fn len(&self) -> usize
-        ensures { result ≡ length self.now }
+        ensures { result ≡ length (fields T.SIZE T.decode self.now) }
     {
         self.bytes.len() / T::SIZE
     }
 
     /// The field at an index, where there is one.
     pub fn get_item(&self, index: usize) -> Option<T::HostType>
-        ensures { result ≡ slice_get self.now index }
+        ensures { result ≡ slice_get (fields T.SIZE T.decode self.now) index }
     {
         let item = field_bytes::<T>(self.bytes, index)?;
         Some(T::read_unchecked(item))
@@ -65,9 +65,9 @@ impl<'a, T: ReadUnchecked> ReadArray<'a, T> {
 impl<'a, T: ReadUnchecked> Iterator for ReadArrayIter<'a, T> {
     type Item = T::HostType;
 
-    ghost next_gives = { YieldsFirst (λ s. s) };
+    ghost next_gives = { YieldsFirst (fields T.SIZE T.decode) };
 
-    ghost remaining = { item_count (λ s. s) };
+    ghost remaining = { item_count (fields T.SIZE T.decode) };
 
     fn next(&mut self) -> Option<T::HostType> {
         let (first, rest) = first_field::<T>(self.bytes)?;

@@ -7,12 +7,13 @@ ghost use Rattle.read.specs.declared.error.ParseError.TheVariants.{BadEof};
 #[derive(Clone, Copy, Debug)]
 pub struct ReadEof {}
 
+// The cases have no numbers of their own: those would change what a cast of a case gives. `number` tells a refusal's.
 #[derive(Clone, Copy, PartialEq, Eq, Debug)]
 pub enum ParseError {
-    BadEof = 1,
-    BadValue = 2,
-    BadIndex = 3,
-    BadOffset = 4,
+    BadEof,
+    BadValue,
+    BadIndex,
+    BadOffset,
 }
 
 impl From<ReadEof> for ParseError {
@@ -28,6 +29,11 @@ impl ParseError {
     pub fn number(self) -> u8
         ensures { result ≡ number_of self }
     {
-        self as u8
+        match self {
+            ParseError::BadEof => 1,
+            ParseError::BadValue => 2,
+            ParseError::BadIndex => 3,
+            ParseError::BadOffset => 4,
+        }
     }
 }

@@ -4,7 +4,6 @@
 ghost use Rattle.std.specs.Prelude.{◌≡◌, ℕ, ◌*◌, ◌≤◌, List, length, Ok, Err, MatchBool, nat_le};
 ghost use Rattle.read.specs.Bytes.{AllBytes};
 ghost use Rattle.read.specs.Reading.{Takes};
-ghost use Rattle.read.specs.Arrays.{fields};
 ghost use Rattle.read.specs.declared.error.ParseError.TheVariants.{BadEof};
 
 use crate::error::{ParseError, ReadEof};
@@ -125,7 +124,7 @@ impl<'a> ReadCtxt<'a> {
     }
 
     pub fn read_array<T: ReadUnchecked>(&mut self, n: usize) -> Result<ReadArray<'a, T>, ParseError>
-        ensures { Takes (n * T.SIZE) (λ a bs. a ≡ fields T.SIZE T.decode bs) BadEof self.old.rest.now result self.new.rest.now }
+        ensures { Takes (n * T.SIZE) (λ a bs. a ≡ bs) BadEof self.old.rest.now result self.new.rest.now }
     {
         let scope = self.read_scope(n.saturating_mul(T::SIZE))?;
         Ok(ReadArray {

@@ -35,6 +35,10 @@ impl GlyfHeader {
     pub fn read(data: &[u8]) -> Result<GlyfHeader, ParseError>
         ensures { MatchBool (nat_le 36 (length «data».now)) (result ≡ Ok (header_said «data».now)) (result ≡ Err BadEof) }
     {
+        // Tested at once, so that the compiler can leave out the tests of the reads below.
+        if data.len() < 36 {
+            return Err(ParseError::BadEof);
+        }
         GlyfHeader::read_fields(&mut ReadScope::new(data).ctxt())
     }
 

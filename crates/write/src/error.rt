@@ -2,10 +2,11 @@
 ghost use Rattle.std.specs.Prelude.{◌≡◌};
 ghost use Rattle.write.specs.Errors.{number_of};
 
+// The case has no number of its own, as in `ParseError` of `read`.
 #[derive(Clone, Copy, PartialEq, Eq)]
 pub enum WriteError {
     /// The sink has no space for what was put.
-    NoSpace = 7,
+    NoSpace,
 }
 
 impl WriteError {
@@ -13,6 +14,8 @@ impl WriteError {
     pub fn number(self) -> u8
         ensures { result ≡ number_of self }
     {
-        self as u8
+        match self {
+            WriteError::NoSpace => 7,
+        }
     }
 }
